@@ -1,0 +1,4 @@
+pub mod Spans
+pub mod Refusals
+pub mod Reasons
+pub mod Environments

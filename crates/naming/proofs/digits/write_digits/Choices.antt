@@ -1,0 +1,9 @@
+-- What is left of the number, written before the places that are filled, is the whole.
+use mathlib.Core.Path.{_≡_}
+use mathlib.Core.List.{_++_}
+use lib.ListN.{length, drop}
+use Rattle.naming.specs.Texts.{lastDigits}
+use Rattle.naming.proofs.digits.write_digits.Given as given
+
+abbrev pub Inv-loop-place : given.InvT-loop-place
+Inv-loop-place l = lastDigits (l .base) (l .place) (l .rest) ++ drop (l .place) (l .places) ≡ lastDigits (l .base) (length (l .entry .places)) (l .number)

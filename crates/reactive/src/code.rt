@@ -1,0 +1,28 @@
+// The codes of rows.
+#[derive(Clone, Copy)]
+pub enum Code {
+    Block = 1,
+    Instruction = 2,
+    Scope = 3,
+    Pruned = 4,
+    Leaf = 5,
+    Logical = 6,
+    Conditional = 7,
+    Sequence = 8,
+    Optional = 9,
+    Break = 10,
+    Continue = 11,
+    Return = 12,
+    Throw = 13,
+    Switch = 14,
+    Case = 15,
+    DoWhile = 16,
+    While = 17,
+    For = 18,
+    ForOf = 19,
+    ForIn = 20,
+    If = 21,
+    Label = 22,
+    Try = 23,
+    Handler = 24,
+}

@@ -1,0 +1,5 @@
+pub mod environment ;
+pub mod ids ;
+pub mod refusal ;
+pub mod span ;
+pub mod tables ;
