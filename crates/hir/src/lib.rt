@@ -1,6 +1,7 @@
-// Numbers, tables and the environment: what the passes read and write.
+// Numbers, tables, the environment and scratch: what the passes read and write.
 pub mod environment;
 pub mod ids;
 pub mod refusal;
+pub mod scratch;
 pub mod span;
 pub mod tables;

@@ -1,0 +1,3 @@
+// One walk over a tree, for any visitor.
+pub mod visitor;
+pub mod walking;

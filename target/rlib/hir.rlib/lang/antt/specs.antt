@@ -1,4 +1,0 @@
-pub mod Spans
-pub mod Refusals
-pub mod Reasons
-pub mod Environments

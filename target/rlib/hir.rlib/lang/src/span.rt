@@ -1,7 +1,0 @@
-ghost use mathlib.Core.Path.{_≡_};
-ghost use Rattle.hir.specs.Spans.{part};
-# [ derive ( Clone , Copy ) ] pub struct Span { pub start : u32 , pub count : u32 , }
-impl Span {
-pub fn of < 'a > ( self , pool : & 'a [ u32 ] ) -> & 'a [ u32 ]
-        ensures { λ r. ⌜ now r ≡ part (now (pool .entry)) self ⌝ } ;
-}
