@@ -1,7 +1,9 @@
 -- What an environment stands for. Assumes nothing.
-use mathlib.Core.List.{List}
+use mathlib.Core.Bool.{cond}
+use mathlib.Core.List.{List, [], _∷_}
 use Prim.Native.Nat.{ℕ, _+_}
-use lib.ListN.{length, getD, set, take}
+use lib.Dec.{eqb}
+use lib.ListN.{getD, set, take}
 use Rattle.hir.specs.declared.span.Span.{Span}
 use Rattle.hir.specs.declared.tables.Identifier.{Identifier}
 use Rattle.hir.specs.declared.tables.Scope.{Scope}
@@ -75,3 +77,8 @@ journaled m r = record {
   identifiers = m .identifiers; scopes = m .scopes; functions = m .functions; pool = m .pool;
   journal = set (m .journal) (m .count) r; count = m .count + 1
 }
+
+-- how many identifiers have no name
+abbrev pub unnamed : List Identifier → ℕ
+unnamed [] = 0
+unnamed (i ∷ is) = cond (eqb (i .tag) 0) 1 0 + unnamed is

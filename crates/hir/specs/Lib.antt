@@ -4,3 +4,4 @@ pub mod Reasons
 pub mod Environments
 pub mod Scratches
 pub mod Lists
+pub mod Sound

@@ -1,9 +1,13 @@
 -- What scratch holds. Assumes nothing.
 use mathlib.Core.Bool.{Bool, false}
 use mathlib.Core.List.{List}
+use Prim.Native.Nat.{ℕ}
+use lib.ListN.{getD}
 use Rattle.hir.specs.declared.scratch.Work.{Work}
 use Rattle.hir.specs.declared.scratch.Trail.{Trail}
 use Rattle.hir.specs.declared.scratch.Scratch.{Scratch}
+use Rattle.hir.specs.declared.environment.Environment.{Environment}
+use Rattle.hir.specs.Environments.{Model, model}
 
 pub record Notes : Type 0 where
   pub work : List Work
@@ -18,3 +22,17 @@ no-work = record { tag = false; promoted = false; recorded = 0; escaped = false;
 
 abbrev pub no-trail : Trail
 no-trail = record { scope = record { 0 = 0 }; link = 0 }
+
+abbrev pub workOf : Notes → ℕ → Work
+workOf n i = getD (n .work) i no-work
+
+-- all that a run writes
+pub record Tables : Type 0 where
+  pub env : Model
+  pub notes : Notes
+
+abbrev pub both : Model → Notes → Tables
+both m n = record { env = m; notes = n }
+
+abbrev pub tables : Environment → Scratch → Tables
+tables e s = both (model e) (noted s)
