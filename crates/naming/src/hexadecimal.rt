@@ -1,8 +1,8 @@
 // The naming with eight hexadecimal digits, as `#t00000011`.
 ghost use Rattle.naming.specs.Texts.{hexadecimalText};
-use crate::digits::write_name;
 use crate::letter::Letter;
 use crate::naming::Naming;
+use crate::text::write_in_base;
 use hir::refusal::Refusal;
 
 // Eight lower-case hexadecimal digits.
@@ -13,6 +13,6 @@ pub impl Naming for Hexadecimal as HexadecimalNaming {
     ghost text = { λ _. hexadecimalText };
 
     fn write(&self, letter: Letter, number: u16, buffer: &mut [u8]) -> Result<usize, Refusal> {
-        write_name(buffer, letter, number, 16, 8)
+        write_in_base(letter, number, 16, 8, buffer)
     }
 }

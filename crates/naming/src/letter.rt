@@ -2,7 +2,7 @@
 ghost use mathlib.Core.Path.{_≡_};
 ghost use Rattle.naming.specs.Texts.{letterByte};
 
-// `t` or `T`: which of the two kinds of name it is.
+// `t` or `T`.
 #[derive(Clone, Copy, PartialEq)]
 pub enum Letter {
     Lower,

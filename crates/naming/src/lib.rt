@@ -4,3 +4,6 @@ mod digits;
 pub mod hexadecimal;
 pub mod letter;
 pub mod naming;
+#[cfg(test)]
+mod tests;
+mod text;

@@ -1,4 +1,4 @@
--- What is left of the number, written before the places that are filled, is the whole.
+-- The digits that are still to come, before those that stand, are the number's.
 use mathlib.Core.Path.{_≡_}
 use mathlib.Core.List.{_++_}
 use lib.ListN.{length, drop}
