@@ -1,2 +1,3 @@
 pub mod Identifier
 pub mod Growth
+pub mod Temporaries

@@ -5,7 +5,8 @@ use Prim.Native.Nat.{ℕ, _+_, _<_, _≤_}
 use lib.ListN.{length, getD, drop}
 use Rattle.std.proofs.shelf.Lists.{drop-all, drop-more}
 use Rattle.hir.specs.Lists.{over}
-use Rattle.walk.specs.Events.{Event, Allowed, acting, actsOf}
+use Rattle.hir.specs.Scratches.{Tables}
+use Rattle.walk.specs.Events.{Whole, whole, Event, Allowed, acting, onTables, actsOf}
 use Rattle.walk.proofs.Rows.{over-append}
 
 -- what acts need, as far as it splits: the first part of a list, and what is left after one act
@@ -62,3 +63,17 @@ module _ {W A : Type 0} (does : W → A → W) (Ready : W → List A → Type 0)
 -- the element of a slice at a place, and those after it
 pub slice-here : {X : Type 0} (xs : List X) (i : ℕ) (d : X) → i < length xs → drop i xs ≡ getD xs i d ∷ drop (i + 1) xs
 slice-here xs i d h = drop-more xs i d h
+
+-- a pass whose visitor stays as it is
+module _ {V A : Type 0} (does : Tables → A → Tables) (Ready : Tables → List A → Type 0) (splits : Splits does Ready) (acts : Event → List A) where
+  pub tables-over : (es : List Event) (w : Whole V) → over (onTables does acts) w es ≡ whole (w .visitor) (over does (w .tables) (actsOf acts es))
+  tables-over [] w = refl
+  tables-over (e ∷ es) w =
+      tables-over es (onTables does acts w e)
+      ∙ ap (λ t. whole (w .visitor) t) (sym (over-append does (w .tables) (acts e) (actsOf acts es)))
+
+  pub tables-allowed : (es : List Event) (w : Whole V) → Ready (w .tables) (actsOf acts es) → Allowed (λ v e. Ready (v .tables) (acts e)) (onTables does acts) w es
+  tables-allowed [] w r = tt
+  tables-allowed (e ∷ es) w r =
+      (splits .front (w .tables) (acts e) (actsOf acts es) r,
+        tables-allowed es (onTables does acts w e) (ready-over does Ready splits (w .tables) (acts e) (actsOf acts es) r))

@@ -6,20 +6,18 @@ use lib.Dec.{leb}
 use lib.ListN.{length, getD}
 use Rattle.std.specs.declared.option.Option.{Option}
 use Rattle.std.specs.declared.option.Option.the-variants.{Some, None}
-use Rattle.hir.specs.Environments.{Model}
 use Rattle.hir.specs.Lists.{over}
-use Rattle.hir.specs.Scratches.{Notes}
+use Rattle.hir.specs.Scratches.{Tables}
 use Rattle.reactive.specs.declared.row.RowHead.{RowHead}
 use Rattle.reactive.specs.Rows.{Row, head, no-row}
 
 -- a visitor with the tables that it writes
 pub record Whole (V : Type 0) : Type 0 where
   pub visitor : V
-  pub env : Model
-  pub notes : Notes
+  pub tables : Tables
 
-abbrev pub whole : {V : Type 0} → V → Model → Notes → Whole V
-whole v m n = record { visitor = v; env = m; notes = n }
+abbrev pub whole : {V : Type 0} → V → Tables → Whole V
+whole v t = record { visitor = v; tables = t }
 
 -- a row is entered, within its parent, or left
 pub data Event : Type 0 where
@@ -68,3 +66,7 @@ acting does acts w e = over does w (acts e)
 abbrev pub actsOf : {A : Type 0} → (Event → List A) → List Event → List A
 actsOf acts [] = []
 actsOf acts (e ∷ es) = acts e ++ actsOf acts es
+
+-- a pass that only turns events into acts on the tables
+abbrev pub onTables : {V A : Type 0} → (Tables → A → Tables) → (Event → List A) → Whole V → Event → Whole V
+onTables does acts w e = whole (w .visitor) (over does (w .tables) (acts e))

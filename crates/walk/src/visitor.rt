@@ -1,8 +1,7 @@
 ghost use mathlib.Core.Path.{_≡_};
 ghost use mathlib.Core.Bool.{true};
 ghost use Rattle.std.specs.Options.{isSome};
-ghost use Rattle.hir.specs.Environments.{model};
-ghost use Rattle.hir.specs.Scratches.{noted};
+ghost use Rattle.hir.specs.Scratches.{tables};
 ghost use Rattle.reactive.specs.Rows.{head, given, lastRow};
 ghost use Rattle.walk.specs.Events.{Whole, whole, Event, entering, leaving};
 use hir::environment::Environment;
@@ -22,11 +21,11 @@ pub trait Visitor {
     fn enter<S: TreeSource>(&mut self, env: &mut Environment, scratch: &mut Scratch, parent: Option<RowHead>, row: &RowHead, source: &S)
         requires given { ⌜ isSome (given (S·TreeSource .reading (now source))) ≡ true ⌝ }
         requires row { ⌜ now row ≡ head (lastRow (S·TreeSource .reading (now source))) ⌝ }
-        requires can { ⌜ can (whole (now self) (model (now env)) (noted (now scratch))) (entering parent (lastRow (S·TreeSource .reading (now source)))) ⌝ }
-        ensures { λ _. ⌜ whole (now (self .exit)) (model (now (env .exit))) (noted (now (scratch .exit))) ≡ after (whole (now (self .entry)) (model (now (env .entry))) (noted (now (scratch .entry)))) (entering parent (lastRow (S·TreeSource .reading (now (source .entry))))) ⌝ };
+        requires can { ⌜ can (whole (now self) (tables (now env) (now scratch))) (entering parent (lastRow (S·TreeSource .reading (now source)))) ⌝ }
+        ensures { λ _. ⌜ whole (now (self .exit)) (tables (now (env .exit)) (now (scratch .exit))) ≡ after (whole (now (self .entry)) (tables (now (env .entry)) (now (scratch .entry)))) (entering parent (lastRow (S·TreeSource .reading (now (source .entry))))) ⌝ };
 
     // A row is left, after all rows within it.
     fn leave(&mut self, env: &mut Environment, scratch: &mut Scratch, row: &RowHead)
-        requires { ⌜ can (whole (now self) (model (now env)) (noted (now scratch))) (leaving (now row)) ⌝ }
-        ensures { λ _. ⌜ whole (now (self .exit)) (model (now (env .exit))) (noted (now (scratch .exit))) ≡ after (whole (now (self .entry)) (model (now (env .entry))) (noted (now (scratch .entry)))) (leaving (now (row .entry))) ⌝ };
+        requires { ⌜ can (whole (now self) (tables (now env) (now scratch))) (leaving (now row)) ⌝ }
+        ensures { λ _. ⌜ whole (now (self .exit)) (tables (now (env .exit)) (now (scratch .exit))) ≡ after (whole (now (self .entry)) (tables (now (env .entry)) (now (scratch .entry)))) (leaving (now (row .entry))) ⌝ };
 }

@@ -1,8 +1,7 @@
 use mathlib.Core.Path.{_≡_}
 use Prim.Native.Nat.{_≤_}
 use lib.ListN.{length}
-use Rattle.hir.specs.Environments.{model}
-use Rattle.hir.specs.Scratches.{noted}
+use Rattle.hir.specs.Scratches.{tables}
 use Rattle.reactive.specs.Rows.{left}
 use Rattle.walk.specs.Events.{whole, standing}
 use Rattle.walk.proofs.Rows.{Walking}
@@ -12,8 +11,8 @@ abbrev pub Inv-loop-row : given.InvT-loop-row
 Inv-loop-row g l =
     (length (l .stack) ≡ 128) × (l .height ≤ 128) ×
     Walking (g .V·Visitor .can) (g .V·Visitor .after)
-    (whole (l .entry .visitor) (model (l .entry .env)) (noted (l .entry .scratch)))
-    (whole (l .visitor) (model (l .env)) (noted (l .scratch)))
+    (whole (l .entry .visitor) (tables (l .entry .env) (l .entry .scratch)))
+    (whole (l .visitor) (tables (l .env) (l .scratch)))
     (g .S·TreeSource .reading (l .entry .source))
     (g .S·TreeSource .reading (l .source))
     (standing (l .stack) (l .height))
