@@ -1,3 +1,4 @@
 pub mod Growing
 pub mod Listing
+pub mod Passing
 pub mod Visiting

@@ -12,7 +12,7 @@ use Rattle.hir.specs.Scratches.{Tables}
 use Rattle.hir.specs.Sound.{Sound, Known, KnownIn}
 use Rattle.hir.specs.Spans.{ident, part, identifiersIn}
 use Rattle.promote.specs.Growth.{Grows}
-use Rattle.promote.proofs.Growing.{grows-none, grows-trans, kept, sound-grows}
+use Rattle.promote.proofs.Growing.{grows-none, grows-trans, grows-each, kept, known-in-kept, sound-grows}
 
 -- i numbers of a list of the pool had their step
 pub record Listed (f : Tables → IdentifierId → Tables) (start at : Tables) (ns : List ℕ) (i : ℕ) : Type 0 where
@@ -49,3 +49,17 @@ module _ (f : Tables → IdentifierId → Tables) (one : (t : Tables) (i : Ident
 pub listed-all : (f : Tables → IdentifierId → Tables) (start at : Tables) (list : Span) (ns : List ℕ) (i : ℕ) → ns ≡ part (start .env .pool) list → Listed f start at ns i → length ns ≤ i → at ≡ over f start (identifiersIn (start .env .pool) list)
 listed-all f start at list ns i e inv past =
     sym (ap (λ xs. over f start (map ident xs)) (sym e) ∙ inv .same ∙ ap (λ xs. over f at (map ident xs)) (drop-all i ns past))
+
+-- one list after others, all known from the start
+module _ (f : Tables → IdentifierId → Tables) (one : (t : Tables) (i : IdentifierId) → Sound t → Known (t .env) i → Grows t (f t i)) (b at : Tables) (s : Sound b) (g : Grows b at) (list : Span) (h : KnownIn (b .env) list) where
+  pub next-sound : Sound at
+  next-sound = sound-grows s g
+
+  pub next-known : KnownIn (at .env) list
+  next-known = known-in-kept (kept (g .named)) list h
+
+  pub next-grows : (on : Tables) → on ≡ over f at (identifiersIn (at .env .pool) list) → Grows b on
+  next-grows on e = grows-trans g (subst (Grows at) (sym e) (grows-each f one at _ next-sound next-known))
+
+  pub next-same : (on : Tables) → on ≡ over f at (identifiersIn (at .env .pool) list) → on ≡ over f at (identifiersIn (b .env .pool) list)
+  next-same on e = e ∙ ap (λ p. over f at (identifiersIn p list)) (kept (g .named) .pool)

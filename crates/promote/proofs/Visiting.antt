@@ -24,6 +24,7 @@ use Rattle.walk.proofs.Acting.{Splits}
 use Rattle.promote.specs.Growth.{Grows, none}
 use Rattle.promote.specs.Identifier.{promoted, promoteUnnamed, isUnnamed}
 use Rattle.promote.specs.Temporaries.{Act, scope, pruned, inner, promoteEscaped, isMarked, withMark, entered, nestedIn, visit, unmarked, does, Fits, Ready}
+use Rattle.promote.proofs.Passing as passing
 use Rattle.promote.proofs.Growing.{Kept, kept, grows-none, grows-trans, grows-if, grows-unnamed, grows-each, sound-grows, known-in-kept}
 
 pub grows-escaped : (t : Tables) (i : IdentifierId) → Sound t → Known (t .env) i → Grows t (promoteEscaped t i)
@@ -102,31 +103,19 @@ grows-does t (scope x) s h =
 grows-does t (pruned x) s h = grows-each promoteEscaped grows-escaped t _ s (s .scopes (x .0) h .declarations)
 grows-does t (inner f) s h = visited (unmarked (t .notes .marks)) t f s h .grows
 
-fits-kept : {m t : Model} → Kept m t → (a : Act) → Fits m a → Fits t a
-fits-kept k (scope s) h = let e = ap length (k .scopes) in omega arith
-fits-kept k (pruned s) h = let e = ap length (k .scopes) in omega arith
-fits-kept k (inner f) h = let e = ap length (k .functions) in omega arith
-
-each-kept : {m t : Model} → Kept m t → (todo : List Act) → Each (Fits m) todo → Each (Fits t) todo
-each-kept k [] h = tt
-each-kept k (a ∷ todo) h = (fits-kept k a (h .0), each-kept k todo (h .1))
-
-each-front : {A : Type 0} (P : A → Type 0) (xs ys : List A) → Each P (xs ++ ys) → Each P xs
-each-front P [] ys h = tt
-each-front P (x ∷ xs) ys h = (h .0, each-front P xs ys (h .1))
+fits-kept : (m t : Model) → Kept m t → (a : Act) → Fits m a → Fits t a
+fits-kept m t k (scope s) h = let e = ap length (k .scopes) in omega arith
+fits-kept m t k (pruned s) h = let e = ap length (k .scopes) in omega arith
+fits-kept m t k (inner f) h = let e = ap length (k .functions) in omega arith
 
 pub ready-grows : (b t : Tables) (todo : List Act) → Ready b todo → Grows b t → Ready t todo
-ready-grows b t todo r g = record { sound = sound-grows (r .sound) g; fits = each-kept (kept (g .named)) todo (r .fits) }
+ready-grows = passing.ready-grows does Fits fits-kept grows-does
 
 pub splits : Splits does Ready
-splits = record {
-  front = λ t xs ys r. record { sound = r .sound; fits = each-front (Fits (t .env)) xs ys (r .fits) };
-  back = λ t a more r. ready-grows t (does t a) more (record { sound = r .sound; fits = r .fits .1 }) (grows-does t a (r .sound) (r .fits .0));
-}
+splits = passing.splits does Fits fits-kept grows-does
 
 pub grows-over : (t : Tables) (todo : List Act) → Ready t todo → Grows t (over does t todo)
-grows-over t [] r = grows-none t
-grows-over t (a ∷ todo) r = grows-trans (grows-does t a (r .sound) (r .fits .0)) (grows-over (does t a) todo (splits .back t a todo r))
+grows-over = passing.grows-over does Fits fits-kept grows-does
 
 -- i of the nested functions were visited, whatever bound on the depth is taken
 pub record Visiting (start at : Tables) (ns : List ℕ) (i : ℕ) : Type 0 where

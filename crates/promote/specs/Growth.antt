@@ -8,7 +8,8 @@ use Rattle.hir.specs.declared.ids.IdentifierId.{IdentifierId}
 use Rattle.hir.specs.declared.tables.JournalRow.{JournalRow}
 use Rattle.hir.specs.Environments.{Model, tagOf, tagged, journaled}
 use Rattle.hir.specs.Scratches.{Tables}
-use Rattle.hir.specs.Sound.{Known}
+use Rattle.hir.specs.Lists.{Each}
+use Rattle.hir.specs.Sound.{Sound, Known}
 
 -- the identifiers of the journal rows, in their order, each without a name until then, got the tag 2 or 3
 pub data Named (m : Model) : List JournalRow → Model → Type 0 where
@@ -22,3 +23,8 @@ pub record Grows (b t : Tables) : Type 0 where
   pub work : length (t .notes .work) ≡ length (b .notes .work)
   pub marks : length (t .notes .marks) ≡ length (b .notes .marks)
   pub trail : length (t .notes .trail) ≡ length (b .notes .trail)
+
+-- a pass can do these acts: the tables are sound, and each act speaks of what has a row
+pub record Ready {A : Type 0} (Fits : Model → A → Type 0) (t : Tables) (todo : List A) : Type 0 where
+  pub sound : Sound t
+  pub fits : Each (Fits (t .env)) todo

@@ -12,9 +12,9 @@ use Rattle.hir.specs.declared.ids.ScopeId.{ScopeId}
 use Rattle.hir.specs.declared.span.Span.{Span}
 use Rattle.hir.specs.declared.tables.Reason.the-variants as reasons
 use Rattle.hir.specs.Environments.{Model, declarationOf, scopeOf, functionOf}
-use Rattle.hir.specs.Lists.{Each, over}
+use Rattle.hir.specs.Lists.{over}
 use Rattle.hir.specs.Scratches.{Notes, Tables, both, workOf}
-use Rattle.hir.specs.Sound.{Sound, KnownFunction}
+use Rattle.hir.specs.Sound.{KnownFunction}
 use Rattle.hir.specs.Spans.{identifiersIn, functionsIn}
 use Rattle.reactive.specs.declared.code.Code.the-variants as codes
 use Rattle.reactive.specs.declared.row.Number.{Number}
@@ -23,6 +23,7 @@ use Rattle.reactive.specs.Codes.{codeNumber}
 use Rattle.reactive.specs.Rows.{Row}
 use Rattle.walk.specs.Events.{Whole, Event, entering, leaving, events, actsOf}
 use Rattle.promote.specs.declared.temporaries.PromoteTemporaries.{PromoteTemporaries}
+use Rattle.promote.specs.Growth as growth
 use Rattle.promote.specs.Identifier.{isUnnamed, promoteIf, promoteUnnamed}
 
 -- a Scope row comes, or a Pruned row, or a row that names a function
@@ -86,9 +87,8 @@ Fits m (scope s) = s .0 < length (m .scopes)
 Fits m (pruned s) = s .0 < length (m .scopes)
 Fits m (inner f) = KnownFunction m f
 
-pub record Ready (t : Tables) (todo : List Act) : Type 0 where
-  pub sound : Sound t
-  pub fits : Each (Fits (t .env)) todo
+abbrev pub Ready : Tables → List Act → Type 0
+Ready = growth.Ready Fits
 
 abbrev pub readies : Whole PromoteTemporaries → Event → Type 0
 readies w e = Ready (w .tables) (acts e)

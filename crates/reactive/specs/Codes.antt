@@ -1,5 +1,11 @@
--- The numbers of row codes. Assumes nothing.
+-- The numbers of row codes, and which rows use their identifier. Assumes nothing.
+use mathlib.Core.Bool.{Bool, cond, _&&_, _||_}
+use mathlib.Core.List.{List, [], _∷_}
 use Prim.Native.Nat.{ℕ}
+use lib.Dec.{eqb, leb}
+use Rattle.std.specs.declared.option.Option.{Option}
+use Rattle.std.specs.declared.option.Option.the-variants.{Some, None}
+use Rattle.hir.specs.declared.ids.IdentifierId.{IdentifierId}
 use Rattle.reactive.specs.declared.code.Code.{Code}
 use Rattle.reactive.specs.declared.code.Code.the-variants as codes
 
@@ -28,3 +34,14 @@ codeNumber codes.If = 21
 codeNumber codes.Label = 22
 codeNumber codes.Try = 23
 codeNumber codes.Handler = 24
+
+-- rows that use their identifier: Return, Throw, Switch, Case, If, Handler
+abbrev pub usesIdentifier : ℕ → Bool
+usesIdentifier c = (leb 12 c && leb c 15) || (eqb c 21 || eqb c 24)
+
+abbrev pub usedIn : ℕ → Option IdentifierId → Option IdentifierId
+usedIn c i = cond (usesIdentifier c) i None
+
+abbrev pub listed : {A : Type 0} → Option A → List A
+listed None = []
+listed (Some x) = x ∷ []

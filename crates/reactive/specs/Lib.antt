@@ -1,4 +1,5 @@
 pub mod Codes
+pub mod Numbers
 pub mod Rows
 pub mod Tables
 pub mod Eithers
