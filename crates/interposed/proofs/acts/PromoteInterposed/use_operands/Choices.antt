@@ -1,0 +1,10 @@
+use Rattle.hir.specs.Scratches.{tables}
+use Rattle.reactive.specs.Rows.{lastRow}
+use Rattle.walk.specs.Events.{whole}
+use Rattle.walk.proofs.Acting.{Doing}
+use Rattle.interposed.specs.Acts.{uses, does, Ready}
+use Rattle.interposed.proofs.Passes.{splits}
+use Rattle.interposed.proofs.acts.PromoteInterposed.use_operands.Given as given
+
+abbrev pub Inv-loop-i : given.InvT-loop-i
+Inv-loop-i g l = Doing does Ready splits uses (whole (l .self) (tables (l .entry .env) (l .entry .scratch))) (whole (l .self) (tables (l .env) (l .scratch))) (lastRow (g .S·TreeSource .reading (l .source)) .operands) (l .i)
