@@ -2,7 +2,7 @@
 use mathlib.Core.Bool.{Bool, false}
 use mathlib.Core.List.{List}
 use Prim.Native.Nat.{ℕ}
-use lib.ListN.{getD}
+use lib.ListN.{length, getD, replicate}
 use Rattle.hir.specs.declared.scratch.Work.{Work}
 use Rattle.hir.specs.declared.scratch.Trail.{Trail}
 use Rattle.hir.specs.declared.scratch.Scratch.{Scratch}
@@ -22,6 +22,10 @@ no-work = record { tag = false; promoted = false; recorded = 0; escaped = false;
 
 abbrev pub no-trail : Trail
 no-trail = record { scope = record { 0 = 0 }; link = 0 }
+
+-- scratch in which nothing is noted; the trail keeps what it held, which no pass reads
+abbrev pub blank : Notes → Notes
+blank n = record { work = replicate (length (n .work)) no-work; marks = replicate (length (n .marks)) false; trail = n .trail }
 
 abbrev pub workOf : Notes → ℕ → Work
 workOf n i = getD (n .work) i no-work

@@ -1,3 +1,5 @@
+ghost use mathlib.Core.Path.{_≡_};
+ghost use Rattle.hir.specs.Scratches.{noted, blank};
 use crate::ids::ScopeId;
 
 // What a run notes of an identifier (constant, global, tracked) and of a declaration (the rest).
@@ -30,4 +32,22 @@ pub struct Scratch<'a> {
     pub work: &'a mut [Work],
     pub marks: &'a mut [bool],
     pub trail: &'a mut [Trail],
+}
+
+impl<'a> Scratch<'a> {
+    // Takes away what an earlier run noted, so that no answer depends on it.
+    pub fn reset(&mut self)
+        ensures { λ _. ⌜ noted (now (self .exit)) ≡ blank (noted (now (self .entry))) ⌝ }
+    {
+        self.work.fill(Work {
+            tag: false,
+            promoted: false,
+            recorded: 0,
+            escaped: false,
+            constant: false,
+            global: false,
+            tracked: 0,
+        });
+        self.marks.fill(false);
+    }
 }

@@ -7,7 +7,7 @@ use native.Mathlib.Omega.{arith}
 use lib.Dec.{eqb}
 use lib.ListN.{length}
 use Rattle.std.specs.declared.option.Option.{Option}
-use Rattle.std.specs.declared.option.Option.the-variants.{Some, None}
+use Rattle.std.specs.declared.option.Option.the-variants.{Some}
 use Rattle.std.proofs.shelf.Tests.{and-parts, cond-true}
 use Rattle.hir.specs.declared.ids.FunctionId.{FunctionId}
 use Rattle.hir.specs.declared.ids.IdentifierId.{IdentifierId}
@@ -16,19 +16,21 @@ use Rattle.hir.specs.declared.tables.Reason.the-variants as reasons
 use Rattle.hir.specs.Environments.{Model, scopeOf}
 use Rattle.hir.specs.Lists.{Each, over}
 use Rattle.hir.specs.Scratches.{Tables}
-use Rattle.hir.specs.Sound.{Sound, Known, KnownIn}
+use Rattle.hir.specs.Sound.{Sound, Known, KnownFunction}
 use Rattle.hir.specs.Spans.{identifiersIn}
 use Rattle.reactive.specs.declared.row.RowHead.{RowHead}
 use Rattle.reactive.specs.Codes.{listed}
-use Rattle.reactive.specs.Numbers.{functionIn}
+use Rattle.reactive.specs.Numbers.{scopeIn, functionIn}
 use Rattle.reactive.specs.Rows.{Row, head}
-use Rattle.walk.specs.Events.{entering}
+use Rattle.reactive.specs.Sound.{HeadSound, RowSound}
+use Rattle.walk.specs.Events.{entering, leaving}
 use Rattle.walk.proofs.Acting.{Splits, ready-onward, over-onward}
+use Rattle.walk.proofs.Fitting.{Within, each-acts, each-append, each-cond, each-map, each-listed}
 use Rattle.promote.specs.Growth.{Grows}
 use Rattle.promote.specs.Identifier.{isUnnamed}
 use Rattle.promote.proofs.Growing.{Kept, kept, grows-none, grows-trans, grows-if, grows-each, sound-grows}
 use Rattle.promote.proofs.Passing as passing
-use Rattle.instances.specs.Instances.{Act, again, parameters, leaves, promoteInstance, does, rowActs, acts, Fits, Ready}
+use Rattle.instances.specs.Instances.{Act, again, parameters, leaves, promoteInstance, does, rowActs, acts, passActs, Fits, Ready}
 
 pub grows-instance : (t : Tables) (i : IdentifierId) → Sound t → Known (t .env) i → Grows t (promoteInstance t i)
 grows-instance t i s h = grows-if _ reasons.SameDeclaration t i (λ e. and-parts (isUnnamed (t .env) i) _ e .0) s h
@@ -91,8 +93,23 @@ module _ (p : Option RowHead) (r : Row) (q : RowHead) (e : q ≡ head r) (is : t
             ∙ ap (λ o. over does t (map again (r .operands) ++ map parameters (listed o))) has
             ∙ ap (over does t) (sym leaf-acts)
 
-      pub leaf-plain : None ≡ functionIn (q .number) → v ≡ over does t (acts (entering p r))
-      leaf-plain has =
-          over-onward does Ready splits t v v (map again (r .operands)) [] went refl
-          ∙ ap (λ o. over does t (map again (r .operands) ++ map parameters (listed o))) has
-          ∙ ap (over does t) (sym leaf-acts)
+-- the acts of sound rows speak of what has a row
+module _ (m : Model) where
+  fits-again : (is : List IdentifierId) → Each (Known m) is → Each (Fits m) (map again is)
+  fits-again is h = each-map (Fits m) again (Known m) (λ x k. k) is h
+
+  fits-enter : (p : Option RowHead) (r : Row) → Within (HeadSound m) p → RowSound m r → Each (Fits m) (acts (entering p r))
+  fits-enter p r w h =
+      each-cond (Fits m) (eqb (r .code) 5) _ _
+      (each-append (Fits m) (map again (r .operands)) _ (fits-again (r .operands) (h .operands))
+      (each-map (Fits m) parameters (KnownFunction m) (λ f k. k) (listed (functionIn (r .number))) (each-listed (KnownFunction m) (functionIn (r .number)) (h .names .function))))
+      (fits-again (listed (r .identifier)) (each-listed (Known m) (r .identifier) (h .names .identifier)))
+
+  fits-leave : (q : RowHead) → HeadSound m q → Each (Fits m) (acts (leaving q))
+  fits-leave q h =
+      each-map (Fits m) leaves (λ s. s .0 < length (m .scopes)) (λ s k. k) (listed (scopeIn (q .number))) (each-listed (λ s. s .0 < length (m .scopes)) (scopeIn (q .number)) (h .scope))
+
+-- the pass can go over sound rows
+pub ready-rows : (t : Tables) (rs : List Row) → Sound t → Each (RowSound (t .env)) rs → Ready t (passActs rs)
+ready-rows t rs s h =
+    record { sound = s; fits = each-acts (RowSound (t .env)) (HeadSound (t .env)) (λ r k. k .names) acts (Fits (t .env)) (fits-enter (t .env)) (fits-leave (t .env)) [] rs tt h }

@@ -5,12 +5,9 @@ use Rattle.hir.specs.Lists.{Each, over}
 use Rattle.hir.specs.Scratches.{Tables}
 use Rattle.hir.specs.Sound.{Sound}
 use Rattle.walk.proofs.Acting.{Splits}
+use Rattle.walk.proofs.Fitting.{each-front}
 use Rattle.promote.specs.Growth.{Grows, Ready}
 use Rattle.promote.proofs.Growing.{Kept, kept, grows-none, grows-trans, sound-grows}
-
-pub each-front : {A : Type 0} (P : A → Type 0) (xs ys : List A) → Each P (xs ++ ys) → Each P xs
-each-front P [] ys h = tt
-each-front P (x ∷ xs) ys h = (h .0, each-front P xs ys (h .1))
 
 module _ {A : Type 0} (does : Tables → A → Tables) (Fits : Model → A → Type 0) (fits-kept : (m t : Model) → Kept m t → (a : A) → Fits m a → Fits t a) (grows-does : (t : Tables) (a : A) → Sound t → Fits (t .env) a → Grows t (does t a)) where
   each-kept : (m t : Model) → Kept m t → (todo : List A) → Each (Fits m) todo → Each (Fits t) todo

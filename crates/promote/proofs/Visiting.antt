@@ -7,6 +7,8 @@ use native.Mathlib.Numerals.{add-one}
 use native.Mathlib.Omega.{arith}
 use lib.Dec.{eqb}
 use lib.ListN.{length, getD, set, drop, length-set}
+use Rattle.std.specs.declared.option.Option.{Option}
+use Rattle.std.specs.declared.option.Option.the-variants.{Some, None}
 use Rattle.std.proofs.shelf.Lists.{drop-all, drop-more}
 use Rattle.std.proofs.shelf.Tests.{and-parts, cond-both, cond-true, cond-false}
 use Rattle.hir.specs.declared.ids.FunctionId.{FunctionId}
@@ -20,10 +22,16 @@ use Rattle.hir.specs.Lists.{Each, over}
 use Rattle.hir.specs.Scratches.{Notes, Tables, both, workOf}
 use Rattle.hir.specs.Sound.{Sound, Known, KnownIn, KnownFunction}
 use Rattle.hir.specs.Spans.{identifiersIn, functionsIn, function, part}
+use Rattle.reactive.specs.declared.row.Number.{Number}
+use Rattle.reactive.specs.declared.row.Number.the-variants as numbers
+use Rattle.reactive.specs.Numbers.{scopeIn, functionIn}
+use Rattle.reactive.specs.Rows.{Row}
+use Rattle.reactive.specs.Sound.{HeadSound, RowSound}
 use Rattle.walk.proofs.Acting.{Splits}
+use Rattle.walk.proofs.Fitting.{each-acts, each-cond}
 use Rattle.promote.specs.Growth.{Grows, none}
 use Rattle.promote.specs.Identifier.{promoted, promoteUnnamed, isUnnamed}
-use Rattle.promote.specs.Temporaries.{Act, scope, pruned, inner, promoteEscaped, isMarked, withMark, entered, nestedIn, visit, unmarked, does, Fits, Ready}
+use Rattle.promote.specs.Temporaries.{Act, scope, pruned, inner, promoteEscaped, isMarked, withMark, entered, nestedIn, visit, unmarked, does, rowActs, acts, passActs, Fits, Ready}
 use Rattle.promote.proofs.Passing as passing
 use Rattle.promote.proofs.Growing.{Kept, kept, grows-none, grows-trans, grows-if, grows-unnamed, grows-each, sound-grows, known-in-kept}
 
@@ -181,3 +189,18 @@ module _ (b start : Tables) (f : FunctionId) (ns : List ℕ) (s : Sound b) (h : 
 
   pub start-less : isMarked b f ≡ false → unmarked (start .notes .marks) + 1 ≡ unmarked (b .notes .marks)
   start-less e = ap (λ (t : Tables). unmarked (t .notes .marks) + 1) is ∙ entered-less b f s h e
+
+-- the acts of sound rows speak of what has a row
+fits-number : (m : Model) (c : ℕ) (n : Option Number) → ((s : ScopeId) → scopeIn n ≡ Some s → s .0 < length (m .scopes)) → ((f : FunctionId) → functionIn n ≡ Some f → KnownFunction m f) → Each (Fits m) (rowActs c n)
+fits-number m c None hs hf = tt
+fits-number m c (Some (numbers.Scope s)) hs hf =
+    each-cond (Fits m) (eqb c 3) (scope s ∷ []) _ (hs s refl, tt) (each-cond (Fits m) (eqb c 4) (pruned s ∷ []) [] (hs s refl, tt) tt)
+fits-number m c (Some (numbers.Function f)) hs hf = (hf f refl, tt)
+
+-- the pass can go over sound rows
+pub ready-rows : (t : Tables) (rs : List Row) → Sound t → Each (RowSound (t .env)) rs → Ready t (passActs rs)
+ready-rows t rs s h =
+    record {
+      sound = s;
+      fits = each-acts (RowSound (t .env)) (HeadSound (t .env)) (λ r k. k .names) acts (Fits (t .env)) (λ p r w k. fits-number (t .env) (r .code) (r .number) (k .names .scope) (k .names .function)) (λ q k. tt) [] rs tt h;
+    }

@@ -3,3 +3,4 @@ pub mod Numbers
 pub mod Rows
 pub mod Tables
 pub mod Eithers
+pub mod Sound

@@ -1,3 +1,4 @@
 pub mod Standing
 pub mod Rows
 pub mod Acting
+pub mod Fitting
