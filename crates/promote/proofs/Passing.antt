@@ -5,7 +5,7 @@ use Rattle.hir.specs.Lists.{Each, over}
 use Rattle.hir.specs.Scratches.{Tables}
 use Rattle.hir.specs.Sound.{Sound}
 use Rattle.walk.proofs.Acting.{Splits}
-use Rattle.walk.proofs.Fitting.{each-front}
+pub use Rattle.walk.proofs.Fitting.{each-front}
 use Rattle.promote.specs.Growth.{Grows, Ready}
 use Rattle.promote.proofs.Growing.{Kept, kept, grows-none, grows-trans, sound-grows}
 

@@ -1,0 +1,7 @@
+pub mod Loops
+pub mod Slots
+pub mod Elements
+pub mod Opening
+pub mod Answering
+pub mod Seeing
+pub mod Sound

@@ -1,0 +1,5 @@
+pub mod Grammar
+pub mod Tables
+pub mod Rows
+pub mod Stacks
+pub mod Sound

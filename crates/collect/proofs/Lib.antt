@@ -1,0 +1,4 @@
+pub mod Following
+pub mod Keeping
+pub mod Leaves
+pub mod Beginning
