@@ -6,10 +6,10 @@ use Prim.Native.Nat.{ℕ, zero, suc, _+_, _≤_, _<_}
 use native.Mathlib.Numerals.{add-one}
 use native.Mathlib.Omega.{arith}
 use lib.Dec.{eqb}
-use lib.ListN.{length, getD, set, drop, length-set}
+use lib.ListN.{length, getD, set, take, drop, length-set, length-take}
 use Rattle.std.specs.declared.option.Option.{Option}
 use Rattle.std.specs.declared.option.Option.the-variants.{Some, None}
-use Rattle.std.proofs.shelf.Lists.{drop-all, drop-more}
+use Rattle.std.proofs.shelf.Lists.{drop-all, drop-more, getD-take, length-take-le}
 use Rattle.std.proofs.shelf.Tests.{and-parts, cond-both, cond-true, cond-false}
 use Rattle.hir.specs.declared.ids.FunctionId.{FunctionId}
 use Rattle.hir.specs.declared.ids.IdentifierId.{IdentifierId}
@@ -31,7 +31,7 @@ use Rattle.walk.proofs.Acting.{Splits}
 use Rattle.walk.proofs.Fitting.{each-acts, each-cond}
 use Rattle.promote.specs.Growth.{Grows, none}
 use Rattle.promote.specs.Identifier.{promoted, promoteUnnamed, isUnnamed}
-use Rattle.promote.specs.Temporaries.{Act, scope, pruned, inner, promoteEscaped, isMarked, withMark, entered, nestedIn, visit, unmarked, does, rowActs, acts, passActs, Fits, Ready}
+use Rattle.promote.specs.Temporaries.{Act, scope, pruned, inner, promoteEscaped, isMarked, withMark, entered, nestedIn, visit, unmarked, unvisited, does, rowActs, acts, passActs, Fits, Ready}
 use Rattle.promote.proofs.Passing as passing
 use Rattle.promote.proofs.Growing.{Kept, kept, grows-none, grows-trans, grows-if, grows-unnamed, grows-each, sound-grows, known-in-kept}
 
@@ -44,6 +44,12 @@ mark-less (true ∷ ms) zero h e = absurd (let z : _≡_ {A = ℕ} 0 1 = cc in o
 mark-less (false ∷ ms) zero h e = omega arith
 mark-less (m ∷ ms) (suc f) h e = let r = mark-less ms f (omega arith) e in omega arith
 
+take-set : {A : Type 0} (n : ℕ) (xs : List A) (i : ℕ) (x : A) → take n (set xs i x) ≡ set (take n xs) i x
+take-set zero xs i x = refl
+take-set (suc n) [] i x = refl
+take-set (suc n) (y ∷ ys) zero x = refl
+take-set (suc n) (y ∷ ys) (suc i) x = ap (λ zs. y ∷ zs) (take-set n ys i x)
+
 -- naming leaves the marks
 same-marks : (why : Reason) (t : Tables) (is : List IdentifierId) → over (promoteUnnamed why) t is .notes .marks ≡ t .notes .marks
 same-marks why t [] = refl
@@ -54,7 +60,7 @@ same-marks why t (i ∷ is) =
 -- identifiers were named, and no mark was taken back
 pub record Visited (b t : Tables) : Type 0 where
   pub grows : Grows b t
-  pub fewer : unmarked (t .notes .marks) ≤ unmarked (b .notes .marks)
+  pub fewer : unvisited t ≤ unvisited b
 
 visited-none : (t : Tables) → Visited t t
 visited-none t = record { grows = grows-none t; fewer = omega arith }
@@ -82,10 +88,16 @@ module _ (t : Tables) (f : FunctionId) (s : Sound t) (h : KnownFunction (t .env)
       grows-trans grows-mark
       (grows-each (promoteUnnamed reasons.InnerParameter) (grows-unnamed reasons.InnerParameter) (withMark t f) _ (sound-grows s grows-mark) (s .functions (f .0) h .parameters))
 
-  pub entered-less : isMarked t f ≡ false → unmarked (entered t f .notes .marks) + 1 ≡ unmarked (t .notes .marks)
+  pub entered-less : isMarked t f ≡ false → unvisited (entered t f) + 1 ≡ unvisited t
   entered-less e =
-      let m = mark-less (t .notes .marks) (f .0) (omega (arith, s .marks)) e in
-      let k = ap unmarked (same-marks reasons.InnerParameter (withMark t f) (identifiersIn (t .env .pool) (functionOf (t .env) (f .0) .parameters))) in
+      let n = length (t .env .functions) in
+      let l : length (take n (t .notes .marks)) ≡ n = length-take-le n (t .notes .marks) (s .marks) in
+      let g : getD (take n (t .notes .marks)) (f .0) false ≡ false = getD-take n (t .notes .marks) (f .0) false h ∙ e in
+      let m = mark-less (take n (t .notes .marks)) (f .0) (omega (arith, l, h)) g in
+      let q = kept (grows-entered .named) .functions in
+      let k : unvisited (entered t f) ≡ unmarked (set (take n (t .notes .marks)) (f .0) true) =
+            (λ i. unmarked (take (length (q i)) (same-marks reasons.InnerParameter (withMark t f) (identifiersIn (t .env .pool) (functionOf (t .env) (f .0) .parameters)) i)))
+            ∙ ap unmarked (take-set n (t .notes .marks) (f .0) true) in
       omega (arith, m, k)
 
   pub nested-known : Each (KnownFunction (entered t f .env)) (nestedIn t f)
@@ -109,7 +121,7 @@ grows-does t (scope x) s h =
     let P : ℕ → Type 0 = λ n. Each (λ (j : IdentifierId). j .0 < n) (identifiersIn (t .env .pool) (scopeOf (t .env) (x .0) .declarations)) in
     grows-trans g (grows-each (promoteUnnamed reasons.Scope) one _ _ (sound-grows s g) (subst P (sym (k .size)) (c .declarations)))
 grows-does t (pruned x) s h = grows-each promoteEscaped grows-escaped t _ s (s .scopes (x .0) h .declarations)
-grows-does t (inner f) s h = visited (unmarked (t .notes .marks)) t f s h .grows
+grows-does t (inner f) s h = visited (length (t .env .functions)) t f s h .grows
 
 fits-kept : (m t : Model) → Kept m t → (a : Act) → Fits m a → Fits t a
 fits-kept m t k (scope s) h = let e = ap length (k .scopes) in omega arith
@@ -127,7 +139,7 @@ grows-over = passing.grows-over does Fits fits-kept grows-does
 
 -- i of the nested functions were visited, whatever bound on the depth is taken
 pub record Visiting (start at : Tables) (ns : List ℕ) (i : ℕ) : Type 0 where
-  pub same : (k : ℕ) → unmarked (start .notes .marks) ≤ k → over (visit k) start (map function ns) ≡ over (visit k) at (map function (drop i ns))
+  pub same : (k : ℕ) → unvisited start ≤ k → over (visit k) start (map function ns) ≡ over (visit k) at (map function (drop i ns))
   pub visited-so : Visited start at
   pub sound : Sound at
   pub known : Each (KnownFunction (at .env)) (map function (drop i ns))
@@ -145,9 +157,9 @@ module _ (start at : Tables) (ns : List ℕ) (i : ℕ) (inv : Visiting start at 
   pub visiting-known : KnownFunction (at .env) (function (getD ns i 0))
   visiting-known = knows .0
 
-  pub visiting-more : (on : Tables) → ((k : ℕ) → unmarked (at .notes .marks) ≤ k → on ≡ visit k at (function (getD ns i 0))) → Visiting start on ns (i + 1)
+  pub visiting-more : (on : Tables) → ((k : ℕ) → unvisited at ≤ k → on ≡ visit k at (function (getD ns i 0))) → Visiting start on ns (i + 1)
   visiting-more on is =
-      let v : Visited at on = subst (Visited at) (sym (is (unmarked (at .notes .marks)) (omega arith))) (visited (unmarked (at .notes .marks)) at (function (getD ns i 0)) (inv .sound) visiting-known) in
+      let v : Visited at on = subst (Visited at) (sym (is (unvisited at) (omega arith))) (visited (unvisited at) at (function (getD ns i 0)) (inv .sound) visiting-known) in
       record {
         same = λ k l.
             let e = is k (omega (arith, inv .visited-so .fewer)) in
@@ -163,10 +175,10 @@ visit-marked zero t f e = refl
 visit-marked (suc k) t f e = sym (cond-true _ _ _ e)
 
 -- all of them were visited
-pub visiting-all : (b start at : Tables) (f : FunctionId) (ns : List ℕ) (i : ℕ) → Sound b → KnownFunction (b .env) f → isMarked b f ≡ false → start ≡ entered b f → map function ns ≡ nestedIn b f → Visiting start at ns i → length ns ≤ i → (k : ℕ) → unmarked (b .notes .marks) ≤ k → at ≡ visit k b f
+pub visiting-all : (b start at : Tables) (f : FunctionId) (ns : List ℕ) (i : ℕ) → Sound b → KnownFunction (b .env) f → isMarked b f ≡ false → start ≡ entered b f → map function ns ≡ nestedIn b f → Visiting start at ns i → length ns ≤ i → (k : ℕ) → unvisited b ≤ k → at ≡ visit k b f
 visiting-all b start at f ns i s h e is list inv past zero l = absurd (omega (arith, entered-less b f s h e))
 visiting-all b start at f ns i s h e is list inv past (suc k) l =
-    let low : unmarked (start .notes .marks) ≤ k = omega (arith, entered-less b f s h e, ap (λ (t : Tables). unmarked (t .notes .marks)) is) in
+    let low : unvisited start ≤ k = omega (arith, entered-less b f s h e, ap unvisited is) in
     sym (cond-false (isMarked b f) b _ e
       ∙ ap (over (visit k) (entered b f)) (sym list)
       ∙ ap (λ t. over (visit k) t (map function ns)) (sym is)
@@ -187,8 +199,8 @@ module _ (b start : Tables) (f : FunctionId) (ns : List ℕ) (s : Sound b) (h : 
   pub start-known : Each (KnownFunction (start .env)) (map function ns)
   start-known = subst (Each (KnownFunction (start .env))) (sym start-nested) (functions-kept (kept (grown .named)) (nestedIn b f) (s .functions (f .0) h .nested))
 
-  pub start-less : isMarked b f ≡ false → unmarked (start .notes .marks) + 1 ≡ unmarked (b .notes .marks)
-  start-less e = ap (λ (t : Tables). unmarked (t .notes .marks) + 1) is ∙ entered-less b f s h e
+  pub start-less : isMarked b f ≡ false → unvisited start + 1 ≡ unvisited b
+  start-less e = ap (λ (t : Tables). unvisited t + 1) is ∙ entered-less b f s h e
 
 -- the acts of sound rows speak of what has a row
 fits-number : (m : Model) (c : ℕ) (n : Option Number) → ((s : ScopeId) → scopeIn n ≡ Some s → s .0 < length (m .scopes)) → ((f : FunctionId) → functionIn n ≡ Some f → KnownFunction m f) → Each (Fits m) (rowActs c n)
@@ -204,3 +216,14 @@ ready-rows t rs s h =
       sound = s;
       fits = each-acts (RowSound (t .env)) (HeadSound (t .env)) (λ r k. k .names) acts (Fits (t .env)) (λ p r w k. fits-number (t .env) (r .code) (r .number) (k .names .scope) (k .names .function)) (λ q k. tt) [] rs tt h;
     }
+
+unmarked-few : (ms : List Bool) → unmarked ms ≤ length ms
+unmarked-few [] = omega arith
+unmarked-few (true ∷ ms) = let h = unmarked-few ms in omega arith
+unmarked-few (false ∷ ms) = let h = unmarked-few ms in omega arith
+
+pub unvisited-few : (t : Tables) → unvisited t ≤ length (t .env .functions)
+unvisited-few t =
+    let a = unmarked-few (take (length (t .env .functions)) (t .notes .marks)) in
+    let b : length (take (length (t .env .functions)) (t .notes .marks)) ≤ length (t .env .functions) = simp length-take (omega arith) in
+    omega (arith, a, b)

@@ -3,7 +3,7 @@ use mathlib.Core.Bool.{Bool, true, false, cond, _&&_}
 use mathlib.Core.List.{List, [], _∷_}
 use Prim.Native.Nat.{ℕ, zero, suc, _+_, _<_}
 use lib.Dec.{eqb}
-use lib.ListN.{length, getD, set}
+use lib.ListN.{length, getD, set, take}
 use Rattle.std.specs.declared.option.Option.{Option}
 use Rattle.std.specs.declared.option.Option.the-variants.{Some, None}
 use Rattle.hir.specs.declared.ids.FunctionId.{FunctionId}
@@ -54,10 +54,13 @@ abbrev pub visit : ℕ → Tables → FunctionId → Tables
 visit zero t f = t
 visit (suc k) t f = cond (isMarked t f) t (over (visit k) (entered t f) (nestedIn t f))
 
--- how many marks are not set: no visit goes deeper
 abbrev pub unmarked : List Bool → ℕ
 unmarked [] = 0
 unmarked (m ∷ ms) = cond m 0 1 + unmarked ms
+
+-- how many functions are not marked: no visit goes deeper
+abbrev pub unvisited : Tables → ℕ
+unvisited t = unmarked (take (length (t .env .functions)) (t .notes .marks))
 
 abbrev pub does : Tables → Act → Tables
 does t (scope s) =
@@ -65,7 +68,7 @@ does t (scope s) =
     (over (promoteUnnamed reasons.Scope) t (identifiersIn (t .env .pool) (scopeOf (t .env) (s .0) .dependencies)))
     (identifiersIn (t .env .pool) (scopeOf (t .env) (s .0) .declarations))
 does t (pruned s) = over promoteEscaped t (identifiersIn (t .env .pool) (scopeOf (t .env) (s .0) .declarations))
-does t (inner f) = visit (unmarked (t .notes .marks)) t f
+does t (inner f) = visit (length (t .env .functions)) t f
 
 -- the act of a row, by its code and number
 abbrev pub rowActs : ℕ → Option Number → List Act

@@ -8,7 +8,7 @@ ghost use Rattle.hir.specs.Sound.{Sound, Known, KnownIn, KnownFunction};
 ghost use Rattle.hir.specs.Spans.{identifiersIn};
 ghost use Rattle.reactive.specs.Rows.{Reading, rewound};
 ghost use Rattle.walk.specs.Events.{Shallow, onTables};
-ghost use Rattle.promote.specs.Temporaries.{promoteEscaped, visit, unmarked, does, Act, scope, pruned, inner, acts, readies, Ready, passActs, promoteTemporaries};
+ghost use Rattle.promote.specs.Temporaries.{promoteEscaped, visit, unvisited, does, Act, scope, pruned, inner, acts, readies, Ready, passActs, promoteTemporaries};
 use crate::identifier::promote_identifier;
 use crate::identifier::promote_list;
 use hir::environment::Environment;
@@ -64,7 +64,7 @@ fn promote_pruned_scope(env: &mut Environment, scratch: &mut Scratch, id: ScopeI
 fn visit_hir_function_for_promotion(env: &mut Environment, scratch: &mut Scratch, id: FunctionId)
     requires known { ⌜ KnownFunction (model (now env)) id ⌝ }
     requires sound { ⌜ Sound (tables (now env) (now scratch)) ⌝ }
-    ensures { λ _. ⌜ ((k : ℕ) → unmarked (now (now (scratch .entry) .marks)) ≤ k → tables (now (env .exit)) (now (scratch .exit)) ≡ visit k (tables (now (env .entry)) (now (scratch .entry))) id) ⌝ }
+    ensures { λ _. ⌜ ((k : ℕ) → unvisited (tables (now (env .entry)) (now (scratch .entry))) ≤ k → tables (now (env .exit)) (now (scratch .exit)) ≡ visit k (tables (now (env .entry)) (now (scratch .entry))) id) ⌝ }
 {
     let f = id.0 as usize;
     if scratch.marks[f] {
@@ -76,6 +76,15 @@ fn visit_hir_function_for_promotion(env: &mut Environment, scratch: &mut Scratch
     for n in function.nested.of(env.pool) {
         visit_hir_function_for_promotion(env, scratch, FunctionId(*n));
     }
+}
+
+// Names the parameters of the function that a Leaf names, and of those nested in it.
+fn promote_inner_function(env: &mut Environment, scratch: &mut Scratch, id: FunctionId)
+    requires known { ⌜ KnownFunction (model (now env)) id ⌝ }
+    requires sound { ⌜ Sound (tables (now env) (now scratch)) ⌝ }
+    ensures { λ _. ⌜ tables (now (env .exit)) (now (scratch .exit)) ≡ does (tables (now (env .entry)) (now (scratch .entry))) (inner id) ⌝ }
+{
+    visit_hir_function_for_promotion(env, scratch, id);
 }
 
 // The second pass.
@@ -96,7 +105,7 @@ pub impl Visitor for PromoteTemporaries as PromoteTemporariesVisitor {
                     promote_pruned_scope(env, scratch, scope);
                 }
             }
-            Some(Number::Function(function)) => visit_hir_function_for_promotion(env, scratch, function),
+            Some(Number::Function(function)) => promote_inner_function(env, scratch, function),
             None => {}
         }
     }
