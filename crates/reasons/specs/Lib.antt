@@ -1,0 +1,5 @@
+pub mod Journals
+pub mod Escapes
+pub mod Interposed
+pub mod Coverings
+pub mod Small

@@ -1,0 +1,2 @@
+// What a run names and why: definitions of tables and rows alone, and what is proved of them.
+pub mod small;
