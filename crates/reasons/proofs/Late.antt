@@ -23,7 +23,7 @@ use Rattle.reasons.proofs.Admitting.{admit}
 use Rattle.reasons.proofs.Steps.{Seen, seen-list, goes-same}
 use Rattle.reasons.proofs.Early.{Static}
 
-filter-append : {A : Type 0} (p : A → Bool) (xs ys : List A) → filter p (xs ++ ys) ≡ filter p xs ++ filter p ys
+pub filter-append : {A : Type 0} (p : A → Bool) (xs ys : List A) → filter p (xs ++ ys) ≡ filter p xs ++ filter p ys
 filter-append p [] ys = refl
 filter-append p (x ∷ xs) ys =
     ⊎-elim

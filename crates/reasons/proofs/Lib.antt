@@ -5,3 +5,5 @@ pub mod Early
 pub mod Late
 pub mod Between
 pub mod Marking
+pub mod Tags
+pub mod Runs

@@ -73,7 +73,7 @@ agrees-set : {trail : List Trail} {used : ℕ} {s : known.Seen} {w : Work} (r : 
 agrees-set r (unseen w a b) = unseen w a b
 agrees-set r (seen-at w l at b e c f) = seen-at w l at b e (chain-set r c) f
 
-agrees-escaped : {trail : List Trail} {used : ℕ} {s : known.Seen} {w : Work} → Agrees trail used s w → w .escaped ≡ known.hasEscaped s
+pub agrees-escaped : {trail : List Trail} {used : ℕ} {s : known.Seen} {w : Work} → Agrees trail used s w → w .escaped ≡ known.hasEscaped s
 agrees-escaped (unseen w a b) = b
 agrees-escaped (seen-at w l at b e c f) = f
 
@@ -254,7 +254,7 @@ module _ (m : Model) (static : Static m) where
       (cases-bool (leaves (s .active) (s .seen d)))
 
   -- a declaration is that of a tag
-  tagging : (ℕ → Bool) → IdentifierId → ℕ → Bool
+  unfoldable pub tagging : (ℕ → Bool) → IdentifierId → ℕ → Bool
   tagging up i d = up d || eqb (declarationOf m (i .0)) d
 
   marks-flags : (s : known.Known) (up : ℕ → Bool) (w : Whole CollectPromotable) (i : IdentifierId) → Marks s up w → Known m i → Marks s (tagging up i) (table.does w (table.flags i))
@@ -307,7 +307,7 @@ module _ (m : Model) (static : Static m) where
       (marks-records (identifiersIn (m .pool) (scopeOf m (x .0) .declarations)) (static .scopes (x .0) h .declarations) s up (w .visitor) (w .tables) k)
 
   -- the tags after an act
-  pub tagsAfter : (ℕ → Bool) → table.Act → ℕ → Bool
+  unfoldable pub tagsAfter : (ℕ → Bool) → table.Act → ℕ → Bool
   tagsAfter up (table.opens x) = up
   tagsAfter up table.shuts = up
   tagsAfter up (table.prunes x) = up

@@ -3,3 +3,4 @@ pub mod Escapes
 pub mod Interposed
 pub mod Coverings
 pub mod Small
+pub mod Passes
