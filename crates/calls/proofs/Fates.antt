@@ -31,7 +31,9 @@ use Rattle.calls.specs.declared.requests.Request.{Request}
 use Rattle.calls.specs.declared.requests.Request.the-variants.{Run, Give, Look, Spell}
 use Rattle.calls.specs.declared.requests.Answer.{Answer}
 use Rattle.calls.specs.declared.requests.Answer.the-variants.{Ran, Given, Tag, Length, Refused, NoTree}
-use Rattle.calls.specs.Steps.{Text, absent, giveRefusal, GiveStep, Names, names, RunAccepted}
+use Rattle.reasons.specs.Coverings as reasons
+use Rattle.reasons.specs.Journals.{names}
+use Rattle.calls.specs.Steps.{Text, absent, giveRefusal, GiveStep, Names, RunAccepted}
 use Rattle.calls.specs.Histories.{World, Moment, treeAt, ranAs, givenAs, RunFollows, GiveFollows, TreeFollows, there, nowhere, Follows}
 use Rattle.calls.specs.Promise.{Gives, added, Journals}
 use Rattle.calls.proofs.Naming.{member}
@@ -65,10 +67,10 @@ same-journal b a e =
     let d : drop (b .count) (journalOf a) ≡ [] = drop-all (b .count) (journalOf a) (let l = short-journal b in omega (arith, ap length e)) in
     e ∙ sym (append-nil (journalOf b)) ∙ ap (λ xs. journalOf b ++ xs) (sym d)
 
-full-journal : (m : Model) → m .count ≤ length (m .journal) → length (journalOf m) ≡ m .count
+pub full-journal : (m : Model) → m .count ≤ length (m .journal) → length (journalOf m) ≡ m .count
 full-journal m h = simp length-take (omega arith)
 
-added-rows : (b a : Model) (rows : List JournalRow) → Names b rows a → drop (b .count) (journalOf a) ≡ rows
+pub added-rows : (b a : Model) (rows : List JournalRow) → Names b rows a → drop (b .count) (journalOf a) ≡ rows
 added-rows b a rows n =
     let l = full-journal b (omega (arith, n .within)) in
     ap (drop (b .count)) (n .journal) ∙ drop-at (journalOf b) rows (b .count) l
@@ -93,11 +95,15 @@ module _ (m : Moment) (t : ℕ) (ps : Span) (asked : m .request ≡ Run t ps) (f
   no-gift : (i : ℕ) → Gives i m → ⊥
   no-gift i g = no-run (m .request) t ps (ident i) asked (g .0)
 
-  module _ (a : RunAccepted (m .before .env) (f .answer) (m .after .env)) where
-    is-added : added m ≡ a .rows
-    is-added = added-rows (m .before .env) (m .after .env) (a .rows) (a .names-them)
+  -- what the run journals
+  abbrev rows : List JournalRow
+  rows = reasons.journal (m .before .env) ps (treeAt (m .before) t .rows)
 
-    ran : m .answer ≡ Ran (m .before .env .count) (length (a .rows))
+  module _ (a : RunAccepted (m .before .env) ps (treeAt (m .before) t .rows) (f .answer) (m .after .env)) where
+    is-added : added m ≡ rows
+    is-added = added-rows (m .before .env) (m .after .env) (rows) (a .names-them)
+
+    ran : m .answer ≡ Ran (m .before .env .count) (length (rows))
     ran = f .told ∙ ap ranAs (a .answers)
 
     accepted-fate : (i : ℕ) → Fate i m
@@ -105,15 +111,15 @@ module _ (m : Moment) (t : ℕ) (ps : Span) (asked : m .request ≡ Run t ps) (f
         let n = a .names-them in
         ⊎-elim
         (λ e. named
-          (member (λ k. tagOf (m .before .env) k ≡ 0) (a .rows) i (each-second (a .rows) (n .unnamed)) e)
-          (member (λ k. (tagOf (m .after .env) k ≡ 2) ⊎ (tagOf (m .after .env) k ≡ 3)) (a .rows) i (n .promoted) e)
-          (record { tree = t; parameters = ps; place = m .before .env .count; count = length (a .rows); asked = asked; accepted = ran; journalled = ap (names i) is-added ∙ e })
+          (member (λ k. tagOf (m .before .env) k ≡ 0) (rows) i (each-second (rows) (n .unnamed)) e)
+          (member (λ k. (tagOf (m .after .env) k ≡ 2) ⊎ (tagOf (m .after .env) k ≡ 3)) (rows) i (n .promoted) e)
+          (record { tree = t; parameters = ps; place = m .before .env .count; count = length (rows); asked = asked; accepted = ran; journalled = ap (names i) is-added ∙ e })
           (no-gift i))
         (λ e. stays
           (ap (λ (x : Identifier). x .tag) (n .others i e))
           (no-gift i)
           (λ j. let z : _≡_ {A = Bool} true false = sym (j .journalled) ∙ ap (names i) is-added ∙ e in let k : _≡_ {A = ℕ} 0 1 = cc in omega arith))
-        (cases-bool (names i (a .rows)))
+        (cases-bool (names i (rows)))
       where
       each-second : (rows : List JournalRow) → Each (λ r. Known (m .before .env) (r .identifier) × (tagOf (m .before .env) (r .identifier .0) ≡ 0)) rows → Each (λ r. tagOf (m .before .env) (r .identifier .0) ≡ 0) rows
       each-second [] h = tt
@@ -126,6 +132,14 @@ module _ (m : Moment) (t : ℕ) (ps : Span) (asked : m .request ≡ Run t ps) (f
   module _ (r : Refusal) (no : f .answer ≡ Err r) (same : m .after .env ≡ m .before .env) where
     refused-fate : (i : ℕ) → Fate i m
     refused-fate i = quiet i m same (no-gift i) (λ j. let e : Ran (j .place) (j .count) ≡ Refused r = sym (j .accepted) ∙ f .told ∙ ap ranAs no in let z : _≡_ {A = ℕ} 0 1 = cc in omega arith)
+
+  -- an accepted run adds exactly those rows
+  pub run-covered : (place count : ℕ) → m .answer ≡ Ran place count → added m ≡ reasons.journal (m .before .env) ps (treeAt (m .before) t .rows)
+  run-covered place count said =
+      ⊎-elim
+      (λ e. is-added (f .step .accepted e))
+      (λ e. absurd (let q : Ran place count ≡ Refused (e .0) = sym said ∙ f .told ∙ ap ranAs (f .step .refused (e .0) (e .1) .answers) in let z : _≡_ {A = ℕ} 0 1 = cc in omega arith))
+      (cases-option (runRefusal (m .before .env) (m .before .notes) ps (treeAt (m .before) t .rows)))
 
   pub run-fate : (i : ℕ) → Fate i m
   run-fate i =

@@ -17,7 +17,8 @@ use Rattle.hir.specs.Lists.{Each}
 use Rattle.hir.specs.Sound.{Known}
 use Rattle.promote.specs.Growth.{Named, none, more}
 use Rattle.promote.proofs.Growing.{Kept, kept}
-use Rattle.calls.specs.Steps.{names, Distinct, Names}
+use Rattle.reasons.specs.Journals.{names, nameOne, nameAll}
+use Rattle.calls.specs.Steps.{Distinct, Names}
 
 pub each-push : {A : Type 0} (P : A → Type 0) (xs : List A) (y : A) → Each P xs → P y → Each P (xs ++ y ∷ [])
 each-push P [] y h p = (p, tt)
@@ -117,3 +118,15 @@ pub named-names : {m t : Model} {js : List JournalRow} → Named m js t → m .c
 named-names {m} none h = names-none m h
 named-names {m} (more {js = js} {t = t} r tag n known was is room) h =
     names-more m t js r tag (named-names n h) (kept (more r tag none known was is room)) known was is room
+
+-- the journal once some rows were named
+pub count-all : (up : ℕ → Bool) (m : Model) (js : List JournalRow) → nameAll up m js .count ≡ m .count + length js
+count-all up m [] = omega arith
+count-all up m (r ∷ js) = let h = count-all up (nameOne up m r) js in omega (arith, h)
+
+pub journal-all : (up : ℕ → Bool) (m : Model) (js : List JournalRow) → m .count + length js ≤ length (m .journal) → journalOf (nameAll up m js) ≡ journalOf m ++ js
+journal-all up m [] h = sym (append-nil (journalOf m))
+journal-all up m (r ∷ js) h =
+    journal-all up (nameOne up m r) js (simp length-set (omega arith))
+    ∙ ap (λ xs. xs ++ js) (take-more-set (m .journal) (m .count) r (omega arith))
+    ∙ append-assoc (journalOf m) (r ∷ []) js

@@ -6,11 +6,11 @@ use mathlib.Core.Logic.{⊎-elim}
 use Prim.Native.Nat.{ℕ, _+_, _-_, _≤_, _<_, _^_}
 use native.Mathlib.Omega.{arith}
 use lib.Dec.{eqb}
-use lib.ListN.{length, getD, replicate, length-replicate}
+use lib.ListN.{length, drop, replicate, length-replicate}
 use Rattle.std.specs.declared.option.Option.{Option}
 use Rattle.std.specs.declared.option.Option.the-variants.{Some, None}
 use Rattle.std.specs.declared.result.Result.the-variants.{Ok, Err}
-use Rattle.std.proofs.shelf.Lists.{getD-replicate, getD-past}
+use Rattle.std.proofs.shelf.Lists.{drop-at}
 use Rattle.std.proofs.shelf.Tests.{cases-lt, cond-both}
 use Rattle.hir.specs.declared.ids.FunctionId.{FunctionId}
 use Rattle.hir.specs.declared.ids.IdentifierId.{IdentifierId}
@@ -19,7 +19,8 @@ use Rattle.hir.specs.declared.refusal.Refusal.{Refusal}
 use Rattle.hir.specs.declared.scratch.Work.{Work}
 use Rattle.hir.specs.declared.span.Span.{Span}
 use Rattle.hir.specs.declared.tables.Reason.the-variants as reasons
-use Rattle.hir.specs.Environments.{Model}
+use Rattle.hir.specs.declared.tables.JournalRow.{JournalRow}
+use Rattle.hir.specs.Environments.{Model, journalOf}
 use Rattle.hir.specs.Lists.{Each, over}
 use Rattle.hir.specs.Refusals.{answered}
 use Rattle.hir.specs.Scratches.{Notes, Tables, both, blank, no-work, workOf}
@@ -48,9 +49,12 @@ use Rattle.interposed.specs.Interposed as interposed
 use Rattle.interposed.proofs.Passes as interposing
 use Rattle.instances.specs.Instances as instances
 use Rattle.instances.proofs.Passes as instancing
-use Rattle.calls.specs.Passes.{reset, passed}
+use Rattle.reasons.specs.Coverings.{journal, ran, upper}
+use Rattle.reasons.specs.Passes.{reset, passed}
+use Rattle.reasons.proofs.Runs.{blank-row, passed-ran}
 use Rattle.calls.specs.Steps.{Names, RunStep}
-use Rattle.calls.proofs.Naming.{named-names}
+use Rattle.calls.proofs.Naming.{named-names, journal-all, count-all}
+use Rattle.calls.proofs.Fates.{added-rows, full-journal}
 
 scope-named : (n : Option Number) (s : ScopeId) → scopeIn n ≡ Some s → n ≡ Some (numbers.Scope s)
 scope-named None s e = absurd (let z : _≡_ {A = ℕ} 0 1 = cc in omega arith)
@@ -126,13 +130,6 @@ passable-grows b t ps rs p g =
       few = p .few;
       trail = omega (arith, p .trail, g .trail);
     }
-
-blank-row : (n : Notes) (d : ℕ) → workOf (blank n) d ≡ no-work
-blank-row n d =
-    ⊎-elim
-    (λ h. getD-replicate (length (n .work)) d no-work no-work h)
-    (λ h. getD-past (replicate (length (n .work)) no-work) d no-work (rw length-replicate h))
-    (cases-lt d (length (n .work)))
 
 same-scope-rows : (rs : List Row) → collects.scopeRows rs ≡ scopeRows rs
 same-scope-rows [] = refl
@@ -227,6 +224,14 @@ run-refused m n ps rs r e = record {
   sizes = record { work = refl; marks = refl; trail = refl };
 }
 
+-- what the passes leave is what the rows cover
+ran-passed : (t : Tables) (ps : Span) (rs : List Row) → Passable t ps rs → passed t ps rs .env ≡ ran (t .env) ps rs
+ran-passed t ps rs p =
+    passed-ran t ps rs (p .sound) (p .parameters) (ready-collect ps rs t (reset t) p refl)
+    (visiting.ready-rows t rs (p .sound) (p .rows) .fits)
+    (ready-interposed ps rs t p .fits)
+    (instancing.ready-rows t rs (p .sound) (p .rows) .fits)
+
 -- an accepted run
 module _ (b t : Tables) (ps : Span) (rs : List Row) (e : runRefusal (b .env) (b .notes) ps rs ≡ None) (is : t ≡ passed b ps rs) where
   grew : Grows b t
@@ -235,14 +240,27 @@ module _ (b t : Tables) (ps : Span) (rs : List Row) (e : runRefusal (b .env) (b 
   did : Names (b .env) (grew .rows) (t .env)
   did = named-names (grew .named) (let p = passable b ps rs e in omega (arith, p .sound .room))
 
+  left-is : t .env ≡ ran (b .env) ps rs
+  left-is = ap (λ (x : Tables). x .env) is ∙ ran-passed b ps rs (passable b ps rs e)
+
+  many : b .env .count + length (journal (b .env) ps rs) ≡ t .env .count
+  many = sym (ap (λ (x : Model). x .count) left-is ∙ count-all (upper (b .env) rs) (b .env) (journal (b .env) ps rs))
+
+  rows-are : grew .rows ≡ journal (b .env) ps rs
+  rows-are =
+      sym (added-rows (b .env) (t .env) (grew .rows) did)
+      ∙ ap (λ xs. drop (b .env .count) xs) (ap journalOf left-is ∙ journal-all (upper (b .env) rs) (b .env) (journal (b .env) ps rs) (omega (arith, many, did .count, did .within)))
+      ∙ drop-at (journalOf (b .env)) (journal (b .env) ps rs) (b .env .count) (full-journal (b .env) (omega (arith, did .within)))
+
   pub run-more : b .env .count ≤ t .env .count
   run-more = omega (arith, did .count)
 
   pub run-accepted : RunStep (b .env) (b .notes) ps rs (Ok (b .env .count, t .env .count - b .env .count)) (t .env) (t .notes)
   run-accepted =
-      let k : t .env .count - b .env .count ≡ length (grew .rows) = omega (arith, did .count) in
+      let k : t .env .count - b .env .count ≡ length (journal (b .env) ps rs) = omega (arith, many) in
+      let P : List JournalRow → Type 0 = λ rows. Names (b .env) rows (t .env) in
       record {
-        accepted = λ f. record { rows = grew .rows; answers = ap (λ n. Ok (b .env .count, n)) k; names-them = did };
+        accepted = λ f. record { answers = ap (λ n. Ok (b .env .count, n)) k; env = left-is; names-them = subst P rows-are did };
         refused = λ r f. absurd (let g : None ≡ Some r = sym e ∙ f in let z : _≡_ {A = ℕ} 0 1 = cc in omega arith);
         sizes = record { work = grew .work; marks = grew .marks; trail = grew .trail };
       }

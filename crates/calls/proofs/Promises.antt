@@ -12,17 +12,19 @@ use Rattle.std.specs.declared.result.Result.{Result}
 use Rattle.std.specs.declared.result.Result.the-variants.{Ok, Err}
 use Rattle.std.proofs.shelf.Tests.{eq-eqb, ne-eqb, eqb-false}
 use Rattle.hir.specs.declared.refusal.Refusal.{Refusal}
+use Rattle.hir.specs.declared.span.Span.{Span}
 use Rattle.hir.specs.Environments.{Model, tagOf, journalOf}
 use Rattle.hir.specs.Refusals.{answered}
 use Rattle.hir.specs.Spans.{ident}
 use Rattle.calls.specs.declared.requests.Request.{Request}
 use Rattle.calls.specs.declared.requests.Request.the-variants.{Run, Give, Look, Spell}
 use Rattle.calls.specs.declared.requests.Answer.{Answer}
-use Rattle.calls.specs.declared.requests.Answer.the-variants.{Tag, Refused}
+use Rattle.calls.specs.declared.requests.Answer.the-variants.{Ran, Tag, Refused, NoTree}
 use Rattle.calls.specs.Steps.{Text, lookRefusal}
-use Rattle.calls.specs.Histories.{World, Moment, lookedAs, LookFollows, Follows, History, start, next, Somewhere}
+use Rattle.calls.specs.Histories.{World, Moment, treeAt, lookedAs, LookFollows, TreeFollows, there, nowhere, Follows, History, start, next, Somewhere}
 use Rattle.calls.specs.Promise.{isNamed, Gives, added, Journals, JournalsAs, TagFollows, by-gift, by-run, by-start, allAdded, Promise}
-use Rattle.calls.proofs.Fates.{Fate, stays, given, named, Done, done-call}
+use Rattle.reasons.specs.Coverings as reasons
+use Rattle.calls.proofs.Fates.{Fate, stays, given, named, Done, done-call, run-covered}
 
 -- what a list of calls does to an identifier
 data Tale (i : ℕ) (w : World) (ms : List Moment) (u : World) : Type 0 where
@@ -142,6 +144,16 @@ looked text m i t (Look a) e is said f =
     ∙ ap (λ x. tagOf (m .before .env) (x .0)) same
 looked text m i t (Spell a) e is said f = absurd (let z : _≡_ {A = ℕ} 0 1 = cc in omega arith)
 
+-- an accepted run journals what its rows cover
+tree-covered : (m : Moment) (t : ℕ) (ps : Span) (place count : ℕ) → m .request ≡ Run t ps → m .answer ≡ Ran place count → TreeFollows (m .before) t ps (m .answer) (m .after) → added m ≡ reasons.journal (m .before .env) ps (treeAt (m .before) t .rows)
+tree-covered m t ps place count asked said (there h f) = run-covered m t ps asked f place count said
+tree-covered m t ps place count asked said (nowhere h e same) = absurd (let q : Ran place count ≡ NoTree = sym said ∙ e in let z : _≡_ {A = ℕ} 0 1 = cc in omega arith)
+
+covered-here : (text : Text) (m : Moment) (t : ℕ) (ps : Span) (place count : ℕ) → m .request ≡ Run t ps → m .answer ≡ Ran place count → Follows text (m .before) (m .request) (m .answer) (m .after) → added m ≡ reasons.journal (m .before .env) ps (treeAt (m .before) t .rows)
+covered-here text m t ps place count asked said f =
+    let P : Request → Type 0 = λ q. Follows text (m .before) q (m .answer) (m .after) in
+    tree-covered m t ps place count asked said (subst P asked f)
+
 all-journal : (text : Text) (w u : World) (ms : List Moment) → History text w ms u → journalOf (u .env) ≡ journalOf (w .env) ++ allAdded ms
 all-journal text w u [] start = sym (append-nil (journalOf (w .env)))
 all-journal text w u (x ∷ ms) (next m e f h) =
@@ -165,6 +177,7 @@ promise text w ms u h =
           let c = cut-at text w u ms before m rest e h in
           tale-start i (m .before) u (m ∷ rest) (tale text i (m .before) u (m ∷ rest) (c .later)) n;
       journal = all-journal text w u ms h;
+      covered = λ before rest m k ps place count e asked said. covered-here text m k ps place count asked said (cut-at text w u ms before m rest e h .follows);
       tags = λ i. tag-follows i w u ms (t i);
       looks = λ before rest m i x e asked said.
           let c = cut-at text w u ms before m rest e h in

@@ -1,4 +1,3 @@
 pub mod Steps
 pub mod Histories
 pub mod Promise
-pub mod Passes

@@ -14,8 +14,10 @@ use Rattle.calls.specs.declared.requests.Request.{Request}
 use Rattle.calls.specs.declared.requests.Request.the-variants.{Run, Give, Look}
 use Rattle.calls.specs.declared.requests.Answer.{Answer}
 use Rattle.calls.specs.declared.requests.Answer.the-variants.{Ran, Given, Tag}
-use Rattle.calls.specs.Steps.{Text, names}
-use Rattle.calls.specs.Histories.{World, Moment, History, Somewhere, Told}
+use Rattle.reasons.specs.Coverings as reasons
+use Rattle.reasons.specs.Journals.{names}
+use Rattle.calls.specs.Steps.{Text}
+use Rattle.calls.specs.Histories.{World, Moment, treeAt, History, Somewhere, Told}
 
 abbrev pub isNamed : World → ℕ → Bool
 isNamed w i = not (eqb (tagOf (w .env) i) 0)
@@ -70,6 +72,8 @@ pub record Promise (text : Text) (w : World) (ms : List Moment) (u : World) : Ty
   pub stands : (before rest : List Moment) (m : Moment) (i : ℕ) → ms ≡ before ++ (m ∷ rest) → isNamed (m .before) i ≡ true → tagOf (u .env) i ≡ tagOf (m .before .env) i
   -- the journal is what it was at the start, and then the rows of the accepted runs in their order
   pub journal : journalOf (u .env) ≡ journalOf (w .env) ++ allAdded ms
+  -- each accepted run journals exactly the unnamed identifiers that a reason covers, each once, in the order of their coverings, under the first
+  pub covered : (before rest : List Moment) (m : Moment) (t : ℕ) (ps : Span) (place count : ℕ) → ms ≡ before ++ (m ∷ rest) → m .request ≡ Run t ps → m .answer ≡ Ran place count → added m ≡ reasons.journal (m .before .env) ps (treeAt (m .before) t .rows)
   -- the tags now follow from the calls, and an accepted look answers the tag that follows from the calls before it
   pub tags : (i : ℕ) → TagFollows w ms i (tagOf (u .env) i)
   pub looks : (before rest : List Moment) (m : Moment) (i t : ℕ) → ms ≡ before ++ (m ∷ rest) → m .request ≡ Look (ident i) → m .answer ≡ Tag t → TagFollows w before i t

@@ -26,6 +26,8 @@ use Rattle.naming.specs.declared.letter.Letter.the-variants.{Lower, Upper}
 use Rattle.naming.specs.Texts.{writeRefusal, overwritten}
 use Rattle.checks.specs.Tables.{manyIdentifiers}
 use Rattle.checks.specs.Rows.{runRefusal}
+use Rattle.reasons.specs.Coverings.{journal, ran}
+use Rattle.reasons.specs.Journals.{names}
 
 -- an identifier without a row
 abbrev pub absent : Model → IdentifierId → Bool
@@ -76,11 +78,6 @@ pub record SpellStep (text : Text) (m : Model) (i : IdentifierId) (buffer : List
   pub answers : answer ≡ answered (spellRefusal text m i buffer) (length (promotedName text m i))
   pub leaves : after ≡ unless (spellRefusal text m i buffer) buffer (overwritten (promotedName text m i) buffer)
 
--- some journal row is of the identifier
-abbrev pub names : ℕ → List JournalRow → Bool
-names i [] = false
-names i (r ∷ rs) = eqb i (r .identifier .0) || names i rs
-
 -- no identifier twice
 abbrev pub Distinct : List JournalRow → Type 0
 Distinct [] = Unit {0}
@@ -113,11 +110,11 @@ pub record SameSize (n after : Notes) : Type 0 where
   pub marks : length (after .marks) ≡ length (n .marks)
   pub trail : length (after .trail) ≡ length (n .trail)
 
--- an accepted run answers the place of its first journal row and their count
-pub record RunAccepted (m : Model) (answer : Result (ℕ × ℕ) Refusal) (after : Model) : Type 0 where
-  pub rows : List JournalRow
-  pub answers : answer ≡ Ok (m .count, length rows)
-  pub names-them : Names m rows after
+-- an accepted run journals, of each identifier without a name, its first covering; it answers the place of the first row and their count
+pub record RunAccepted (m : Model) (ps : Span) (rows : List Row) (answer : Result (ℕ × ℕ) Refusal) (after : Model) : Type 0 where
+  pub answers : answer ≡ Ok (m .count, length (journal m ps rows))
+  pub env : after ≡ ran m ps rows
+  pub names-them : Names m (journal m ps rows) after
 
 -- a refused run leaves names, journal and scratch as they were
 pub record RunRefused (m : Model) (n : Notes) (r : Refusal) (answer : Result (ℕ × ℕ) Refusal) (after : Model) (notes : Notes) : Type 0 where
@@ -127,6 +124,6 @@ pub record RunRefused (m : Model) (n : Notes) (r : Refusal) (answer : Result (�
 
 -- a run over these rows is refused exactly when a condition for it holds
 pub record RunStep (m : Model) (n : Notes) (ps : Span) (rows : List Row) (answer : Result (ℕ × ℕ) Refusal) (after : Model) (notes : Notes) : Type 0 where
-  pub accepted : runRefusal m n ps rows ≡ None → RunAccepted m answer after
+  pub accepted : runRefusal m n ps rows ≡ None → RunAccepted m ps rows answer after
   pub refused : (r : Refusal) → runRefusal m n ps rows ≡ Some r → RunRefused m n r answer after notes
   pub sizes : SameSize n notes

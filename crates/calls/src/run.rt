@@ -6,7 +6,7 @@ ghost use Rattle.hir.specs.Scratches.{noted, tables};
 ghost use Rattle.hir.specs.Refusals.{answered};
 ghost use Rattle.reactive.specs.Rows.{Reading, rewound};
 ghost use Rattle.checks.specs.Rows.{runRefusal};
-ghost use Rattle.calls.specs.Passes.{passed};
+ghost use Rattle.reasons.specs.Passes.{passed};
 ghost use Rattle.calls.specs.Steps.{RunStep};
 use checks::rows::check_rows;
 use checks::tables::check_tables;

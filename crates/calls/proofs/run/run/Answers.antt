@@ -5,7 +5,7 @@ use Rattle.hir.specs.Environments.{model}
 use Rattle.hir.specs.Scratches.{noted, tables}
 use Rattle.reactive.specs.Rows.{Reading, rewound}
 use Rattle.checks.specs.Rows.{runRefusal}
-use Rattle.calls.specs.Passes.{passed}
+use Rattle.reasons.specs.Passes.{passed}
 use Rattle.calls.proofs.Passing.{run-refused, run-accepted, run-more, answered-none, answered-some}
 use Rattle.calls.proofs.run.run.Needs as need
 
