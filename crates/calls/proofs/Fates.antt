@@ -44,7 +44,7 @@ pub data Fate (i : ℕ) (m : Moment) : Type 0 where
   given : tagOf (m .before .env) i ≡ 0 → tagOf (m .after .env) i ≡ 1 → Gives i m → (Journals i m → ⊥) → Fate i m
   named : tagOf (m .before .env) i ≡ 0 → (tagOf (m .after .env) i ≡ 2) ⊎ (tagOf (m .after .env) i ≡ 3) → Journals i m → (Gives i m → ⊥) → Fate i m
 
-cases-option : {A : Type 0} (o : Option A) → (o ≡ None) ⊎ ((x : A) × (o ≡ Some x))
+pub cases-option : {A : Type 0} (o : Option A) → (o ≡ None) ⊎ ((x : A) × (o ≡ Some x))
 cases-option None = inl refl
 cases-option (Some x) = inr (x, refl)
 

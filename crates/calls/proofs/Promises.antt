@@ -22,9 +22,11 @@ use Rattle.calls.specs.declared.requests.Answer.{Answer}
 use Rattle.calls.specs.declared.requests.Answer.the-variants.{Ran, Tag, Refused, NoTree}
 use Rattle.calls.specs.Steps.{Text, lookRefusal}
 use Rattle.calls.specs.Histories.{World, Moment, treeAt, lookedAs, LookFollows, TreeFollows, there, nowhere, Follows, History, start, next, Somewhere}
-use Rattle.calls.specs.Promise.{isNamed, Gives, added, Journals, JournalsAs, TagFollows, by-gift, by-run, by-start, allAdded, Promise}
+use Rattle.calls.specs.Promise.{isNamed, Gives, added, Journals, JournalsAs, TagFollows, by-gift, by-run, by-start, Alike, allAdded, Promise}
+use Rattle.naming.specs.Texts.{Lawful}
 use Rattle.reasons.specs.Coverings as reasons
 use Rattle.calls.proofs.Fates.{Fate, stays, given, named, Done, done-call, run-covered}
+use Rattle.calls.proofs.Spellings.{declares-on, Lettered, call-letter, alike-by}
 
 -- what a list of calls does to an identifier
 data Tale (i : ℕ) (w : World) (ms : List Moment) (u : World) : Type 0 where
@@ -154,6 +156,29 @@ covered-here text m t ps place count asked said f =
     let P : Request → Type 0 = λ q. Follows text (m .before) q (m .answer) (m .after) in
     tree-covered m t ps place count asked said (subst P asked f)
 
+after-here : (text : Text) (w u : World) (m : Moment) (rest : List Moment) → History text w (m ∷ rest) u → History text (m .after) rest u
+after-here text w u x rest (next m e f h) = h
+
+-- two identifiers that one run named, later on
+alike-later : (text : Text) (u : World) (m : Moment) (rest : List Moment) (i j : ℕ) → Follows text (m .before) (m .request) (m .answer) (m .after) → History text (m .before) (m ∷ rest) u → Journals i m → Journals j m → (naming : Text) → Lawful naming → Alike naming (u .env) i j
+alike-later text u m rest i j f h a b naming law =
+    let later = after-here text (m .before) u m rest h in
+    let stands-so : (k : ℕ) → Journals k m → tagOf (u .env) k ≡ tagOf (m .after .env) k = λ k c.
+          tale-start k (m .after) u rest (tale text k (m .after) u rest later) (is-named (m .after) k (named-after k c)) in
+    alike-by naming law m (reasons.upper (m .before .env) (treeAt (m .before) (a .tree) .rows)) u i j
+    (call-letter m (a .tree) (a .parameters) i a text (a .asked) f)
+    (call-letter m (a .tree) (a .parameters) j b text (a .asked) f)
+    (λ k. declares-on text (m .before) u (m ∷ rest) h k)
+    (stands-so i a) (stands-so j b)
+  where
+  named-fate : (k : ℕ) → Journals k m → Fate k m → tagOf (m .after .env) k ≡ 0 → ⊥
+  named-fate k c (stays s g n) z = n c
+  named-fate k c (given x o g n) z = n c
+  named-fate k c (named x o n g) z = promoted-some _ o z
+
+  named-after : (k : ℕ) → Journals k m → tagOf (m .after .env) k ≡ 0 → ⊥
+  named-after k c = named-fate k c (done-call text m f .fate k)
+
 all-journal : (text : Text) (w u : World) (ms : List Moment) → History text w ms u → journalOf (u .env) ≡ journalOf (w .env) ++ allAdded ms
 all-journal text w u [] start = sym (append-nil (journalOf (w .env)))
 all-journal text w u (x ∷ ms) (next m e f h) =
@@ -178,6 +203,7 @@ promise text w ms u h =
           tale-start i (m .before) u (m ∷ rest) (tale text i (m .before) u (m ∷ rest) (c .later)) n;
       journal = all-journal text w u ms h;
       covered = λ before rest m k ps place count e asked said. covered-here text m k ps place count asked said (cut-at text w u ms before m rest e h .follows);
+      alike = λ before rest m i j e a b naming law. let c = cut-at text w u ms before m rest e h in alike-later text u m rest i j (c .follows) (c .later) a b naming law;
       tags = λ i. tag-follows i w u ms (t i);
       looks = λ before rest m i x e asked said.
           let c = cut-at text w u ms before m rest e h in

@@ -8,15 +8,16 @@ use lib.Dec.{eqb}
 use lib.ListN.{drop}
 use Rattle.hir.specs.declared.span.Span.{Span}
 use Rattle.hir.specs.declared.tables.JournalRow.{JournalRow}
-use Rattle.hir.specs.Environments.{Model, tagOf, journalOf}
+use Rattle.hir.specs.Environments.{Model, tagOf, declarationOf, journalOf}
 use Rattle.hir.specs.Spans.{ident}
 use Rattle.calls.specs.declared.requests.Request.{Request}
 use Rattle.calls.specs.declared.requests.Request.the-variants.{Run, Give, Look}
 use Rattle.calls.specs.declared.requests.Answer.{Answer}
 use Rattle.calls.specs.declared.requests.Answer.the-variants.{Ran, Given, Tag}
+use Rattle.naming.specs.Texts.{Lawful}
 use Rattle.reasons.specs.Coverings as reasons
 use Rattle.reasons.specs.Journals.{names}
-use Rattle.calls.specs.Steps.{Text}
+use Rattle.calls.specs.Steps.{Text, promotedName}
 use Rattle.calls.specs.Histories.{World, Moment, treeAt, History, Somewhere, Told}
 
 abbrev pub isNamed : World → ℕ → Bool
@@ -50,6 +51,11 @@ pub data TagFollows (w : World) (ms : List Moment) (i t : ℕ) : Type 0 where
   by-run : Somewhere (JournalsAs i t) ms → (t ≡ 2) ⊎ (t ≡ 3) → TagFollows w ms i t
   by-start : (Somewhere (Gives i) ms → ⊥) → (Somewhere (Journals i) ms → ⊥) → t ≡ tagOf (w .env) i → TagFollows w ms i t
 
+-- the names of i and j are equal exactly when their declarations are
+pub record Alike (text : Text) (m : Model) (i j : ℕ) : Type 0 where
+  pub same : declarationOf m i ≡ declarationOf m j → promotedName text m (ident i) ≡ promotedName text m (ident j)
+  pub apart : promotedName text m (ident i) ≡ promotedName text m (ident j) → declarationOf m i ≡ declarationOf m j
+
 -- the journal rows of all moments, in their order
 abbrev pub allAdded : List Moment → List JournalRow
 allAdded [] = []
@@ -74,6 +80,8 @@ pub record Promise (text : Text) (w : World) (ms : List Moment) (u : World) : Ty
   pub journal : journalOf (u .env) ≡ journalOf (w .env) ++ allAdded ms
   -- each accepted run journals exactly the unnamed identifiers that a reason covers, each once, in the order of their coverings, under the first
   pub covered : (before rest : List Moment) (m : Moment) (t : ℕ) (ps : Span) (place count : ℕ) → ms ≡ before ++ (m ∷ rest) → m .request ≡ Run t ps → m .answer ≡ Ran place count → added m ≡ reasons.journal (m .before .env) ps (treeAt (m .before) t .rows)
+  -- two identifiers that one run named spell alike exactly when their declarations are equal, under every naming that keeps the law
+  pub alike : (before rest : List Moment) (m : Moment) (i j : ℕ) → ms ≡ before ++ (m ∷ rest) → Journals i m → Journals j m → (naming : Text) → Lawful naming → Alike naming (u .env) i j
   -- the tags now follow from the calls, and an accepted look answers the tag that follows from the calls before it
   pub tags : (i : ℕ) → TagFollows w ms i (tagOf (u .env) i)
   pub looks : (before rest : List Moment) (m : Moment) (i t : ℕ) → ms ≡ before ++ (m ∷ rest) → m .request ≡ Look (ident i) → m .answer ≡ Tag t → TagFollows w before i t
