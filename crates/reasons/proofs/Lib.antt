@@ -7,3 +7,4 @@ pub mod Between
 pub mod Marking
 pub mod Tags
 pub mod Runs
+pub mod Keeping

@@ -4,3 +4,4 @@ pub mod Interposed
 pub mod Coverings
 pub mod Small
 pub mod Passes
+pub mod Laws

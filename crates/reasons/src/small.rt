@@ -1,8 +1,10 @@
+ghost use mathlib.Core.Path.{_≡_};
 ghost use Rattle.reasons.specs.Small.{SmallFunctions};
 
-// The journals of twelve small functions.
+// How many small functions there are whose journals are worked out from the definitions.
 pub fn small_functions() -> u8
-    ensures { λ _. ⌜ SmallFunctions ⌝ }
+    ensures count { λ r. ⌜ r ≡ 12 ⌝ }
+    ensures journals { λ _. ⌜ SmallFunctions ⌝ }
 {
-    0
+    12
 }
