@@ -8,3 +8,5 @@ pub mod Marking
 pub mod Tags
 pub mod Runs
 pub mod Keeping
+pub mod Escaping
+pub mod Finding

@@ -5,3 +5,4 @@ pub mod Coverings
 pub mod Small
 pub mod Passes
 pub mod Laws
+pub mod Sentences
