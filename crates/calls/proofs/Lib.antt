@@ -4,3 +4,4 @@ pub mod Spellings
 pub mod Promises
 pub mod Passing
 pub mod Calling
+pub mod Equal

@@ -6,10 +6,14 @@ use mathlib.Core.Logic.{_⊎_}
 use Prim.Native.Nat.{ℕ}
 use lib.Dec.{eqb}
 use lib.ListN.{drop}
+use Rattle.std.specs.declared.result.Result.{Result}
+use Rattle.hir.specs.declared.refusal.Refusal.{Refusal}
 use Rattle.hir.specs.declared.span.Span.{Span}
 use Rattle.hir.specs.declared.tables.JournalRow.{JournalRow}
 use Rattle.hir.specs.Environments.{Model, tagOf, declarationOf, journalOf}
+use Rattle.hir.specs.Scratches.{Notes}
 use Rattle.hir.specs.Spans.{ident}
+use Rattle.reactive.specs.Rows.{Row}
 use Rattle.calls.specs.declared.requests.Request.{Request}
 use Rattle.calls.specs.declared.requests.Request.the-variants.{Run, Give, Look}
 use Rattle.calls.specs.declared.requests.Answer.{Answer}
@@ -17,7 +21,7 @@ use Rattle.calls.specs.declared.requests.Answer.the-variants.{Ran, Given, Tag}
 use Rattle.naming.specs.Texts.{Lawful}
 use Rattle.reasons.specs.Coverings as reasons
 use Rattle.reasons.specs.Journals.{names}
-use Rattle.calls.specs.Steps.{Text, promotedName}
+use Rattle.calls.specs.Steps.{Text, promotedName, SameSize, RunStep}
 use Rattle.calls.specs.Histories.{World, Moment, treeAt, History, Somewhere, Told}
 
 abbrev pub isNamed : World → ℕ → Bool
@@ -89,6 +93,14 @@ pub record Promise (text : Text) (w : World) (ms : List Moment) (u : World) : Ty
 -- the promise for whoever makes the calls one by one: it holds of every list of calls that follow one another
 abbrev pub EveryHistory : Type 0
 EveryHistory = (text : Text) (w : World) (ms : List Moment) (u : World) → History text w ms u → Promise text w ms u
+
+-- two runs on equal environments, over sources with equal rows and with scratch of equal sizes, answer alike and leave equal environments, whatever the sources are made of and whatever scratch held
+abbrev pub EqualRuns : Type 0
+EqualRuns =
+    (m : Model) (ps : Span) (rows : List Row) (n k : Notes) → SameSize n k
+    → (answer other : Result (ℕ × ℕ) Refusal) (after leaves : Model) (noted left : Notes)
+    → RunStep m n ps rows answer after noted → RunStep m k ps rows other leaves left
+    → (answer ≡ other) × (after ≡ leaves)
 
 -- a list of requests was performed: the moments have these requests and answers, and the promise holds of them
 pub record Performed (text : Text) (w : World) (requests : List Request) (answers : List Answer) (u : World) : Type 0 where
