@@ -11,14 +11,11 @@ use Rattle.hir.specs.Environments.{Model}
 use Rattle.hir.specs.Lists.{some, over}
 use Rattle.walk.proofs.Rows.{over-append}
 use Rattle.reasons.specs.Journals.{names, isNamed, firsts, declares}
-
-or-assoc : (a b c : Bool) → (a || (b || c)) ≡ ((a || b) || c)
-or-assoc true b c = refl
-or-assoc false b c = refl
+use Rattle.reasons.proofs.Bools.{or-false, or-assoc, or-swap}
 
 pub some-append : {A : Type 0} (p : A → Bool) (xs ys : List A) → some p (xs ++ ys) ≡ (some p xs || some p ys)
 some-append p [] ys = refl
-some-append p (x ∷ xs) ys = ap (λ b. p x || b) (some-append p xs ys) ∙ or-assoc (p x) (some p xs) (some p ys)
+some-append p (x ∷ xs) ys = ap (λ b. p x || b) (some-append p xs ys) ∙ sym (or-assoc (p x) (some p xs) (some p ys))
 
 -- who has a name once these rows are journalled
 abbrev pub taken : Model → List JournalRow → ℕ → Bool
@@ -32,16 +29,6 @@ firsts-same : (p q : ℕ → Bool) (rows : List JournalRow) → ((i : ℕ) → p
 firsts-same p q [] e = refl
 firsts-same p q (r ∷ rows) e =
     (λ k. cond (e (r .identifier .0) k) (firsts-same p q rows e k) (r ∷ firsts-same (λ i. eqb i (r .identifier .0) || p i) (λ i. eqb i (r .identifier .0) || q i) rows (λ i. ap (λ b. eqb i (r .identifier .0) || b) (e i)) k))
-
-or-false : (b : Bool) → (b || false) ≡ b
-or-false true = refl
-or-false false = refl
-
-or-swap : (a b c : Bool) → ((a || b) || c) ≡ (b || (a || c))
-or-swap true true c = refl
-or-swap true false c = refl
-or-swap false true c = refl
-or-swap false false c = refl
 
 names-push : (i : ℕ) (js : List JournalRow) (r : JournalRow) → names i (js ++ r ∷ []) ≡ (names i js || eqb i (r .identifier .0))
 names-push i js r = some-append (λ x. eqb i (x .identifier .0)) js (r ∷ []) ∙ ap (λ b. names i js || b) (or-false (eqb i (r .identifier .0)))
@@ -77,12 +64,6 @@ absorbed i x p h =
     (λ e. sym (ap (λ b. b || p i) e))
     (cases-bool (eqb i x))
 
-or-move : (a b c : Bool) → (a || (b || c)) ≡ ((b || a) || c)
-or-move true true c = refl
-or-move true false c = refl
-or-move false true c = refl
-or-move false false c = refl
-
 admit-taken : (m : Model) (js : List JournalRow) (r : JournalRow) (i : ℕ) → taken m (admit m js r) i ≡ (eqb i (r .identifier .0) || taken m js i)
 admit-taken m js r i =
     ⊎-elim
@@ -96,4 +77,4 @@ taken-over m js [] i = refl
 taken-over m js (r ∷ rows) i =
     taken-over m (admit m js r) rows i
     ∙ ap (λ b. names i rows || b) (admit-taken m js r i)
-    ∙ or-move (names i rows) (eqb i (r .identifier .0)) (taken m js i)
+    ∙ sym (or-swap (eqb i (r .identifier .0)) (names i rows) (taken m js i))

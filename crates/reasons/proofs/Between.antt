@@ -28,6 +28,7 @@ use Rattle.interposed.specs.Acts as table
 use Rattle.reasons.specs.Journals.{declares}
 use Rattle.reasons.specs.Coverings.{covers, filter}
 use Rattle.reasons.specs.Interposed as known
+use Rattle.reasons.proofs.Bools.{or-true, or-false, and-true, and-false}
 use Rattle.reasons.proofs.Admitting.{taken, admit, taken-push}
 use Rattle.reasons.proofs.Views.{View, view-unnamed, same-field}
 use Rattle.reasons.proofs.Steps.{Seen, seen-list, goes-declares}
@@ -45,18 +46,6 @@ pub record Agrees (e : ℕ) (x : Work) (s : known.Known) (i : ℕ) : Type 0 wher
 promoted-field : {A : Type 0} (g : Work → A) → ((w : Work) → g (as-promoted w) ≡ g w) → (b : Bool) (t : Tables) (i : IdentifierId) (d : ℕ) → g (workOf (promoteIf b reasons.Interposed t i .notes) d) ≡ g (workOf (t .notes) d)
 promoted-field g keeps true t i d = same-field g keeps (t .notes .work) (declarationOf (t .env) (i .0)) d
 promoted-field g keeps false t i d = refl
-
-or-true : (b : Bool) → (b || true) ≡ true
-or-true true = refl
-or-true false = refl
-
-or-false : (b : Bool) → (b || false) ≡ b
-or-false true = refl
-or-false false = refl
-
-and-false : (b : Bool) → (b && false) ≡ false
-and-false true = refl
-and-false false = refl
 
 module _ (m : Model) (up out : ℕ → Bool) (js : List JournalRow) where
   -- the journal with what was found
@@ -186,10 +175,6 @@ module _ (m : Model) (up out : ℕ → Bool) (js : List JournalRow) where
   if-named : (b : Bool) (f : known.Known → known.Known) (s : known.Known) (i : ℕ) → f s .named i ≡ s .named i → known.if b f s .named i ≡ s .named i
   if-named true f s i e = e
   if-named false f s i e = refl
-
-  not-true : (b : Bool) → not b ≡ true → b ≡ false
-  not-true false e = refl
-  not-true true e = absurd (let z : _≡_ {A = ℕ} 0 1 = cc in omega arith)
 
   -- an lvalue is tracked unless it has a name
   knows-tracks : (s : known.Known) (w : table.State) (l : IdentifierId) → Knows s w → Known m l → Knows (known.act s (table.tracks l)) (table.does w (table.tracks l))

@@ -18,15 +18,13 @@ use Rattle.hir.specs.Spans.{identifiersIn}
 use Rattle.collect.specs.Promotable as collect
 use Rattle.reasons.specs.Escapes.{Seen, never, since, Known, nothing, among, outside, used, recorded, at-declaration, act, hasEscaped}
 use Rattle.reasons.specs.Sentences.{records, usesOne, activeBy, activeAt, RecordedAt, UsedAt, Escaped}
+use Rattle.reasons.proofs.Bools.{true-false, was-not}
 
 -- one act more
 pub take-next : {W A : Type 0} (f : W → A → W) (w : W) (acts : List A) (k : ℕ) (d : A) → k < length acts → over f w (take (suc k) acts) ≡ f (over f w (take k acts)) (getD acts k d)
 take-next f w [] k d h = absurd (omega arith)
 take-next f w (a ∷ acts) zero d h = refl
 take-next f w (a ∷ acts) (suc k) d h = take-next f (f w a) acts k d (omega arith)
-
-pub true-false : {A : Type 0} (b : Bool) → b ≡ true → b ≡ false → A
-true-false b e f = absurd (let z : _≡_ {A = Bool} true false = sym e ∙ f in let k : _≡_ {A = ℕ} 0 1 = cc in omega arith)
 
 -- one list of declarations is recorded
 all-active : (m : Model) (s : Known) (is : List IdentifierId) → over (recorded m) s is .active ≡ s .active
@@ -137,10 +135,6 @@ module _ (m : Model) (d : ℕ) where
     out-parts : (ss at : List ScopeId) → outside ss at ≡ true → (x : ScopeId) × (xs : List ScopeId) × (ss ≡ x ∷ xs) × (among x at ≡ false)
     out-parts [] at e = true-false _ e refl
     out-parts (x ∷ xs) at e = (x, xs, refl, was-not _ e)
-      where
-      was-not : (b : Bool) → not b ≡ true → b ≡ false
-      was-not false e = refl
-      was-not true e = true-false _ e refl
 
     said : (k : ℕ) (v : Seen) → k ≡ length acts → Story k v → hasEscaped v ≡ true → Escaped m acts d
     said k v n (unheard f) e = true-false _ e refl

@@ -17,8 +17,9 @@ use Rattle.hir.specs.Spans.{ident}
 use Rattle.interposed.specs.Acts as third
 use Rattle.reasons.specs.Interposed.{Known, plus, minus, finds, fixing, globally, tracking, raising, if, act, nothing, interposed}
 use Rattle.reasons.specs.Sentences.{tracksIt, raisesIt, usesIt, knownAt, actAt, TrackedAt, BarrierAt, FoundAt, Found}
+use Rattle.reasons.proofs.Bools.{or-false, and-true, and-false, true-false, was-not}
 use Rattle.reasons.proofs.Admitting.{some-append}
-use Rattle.reasons.proofs.Escaping.{take-next, true-false}
+use Rattle.reasons.proofs.Escaping.{take-next}
 
 -- what an act does to what is tracked and exposed of x
 record Turns (x : ℕ) (s t : Known) (tr ra : Bool) : Type 0 where
@@ -28,14 +29,6 @@ record Turns (x : ℕ) (s t : Known) (tr ra : Bool) : Type 0 where
 turns-if : (x : ℕ) (s t u : Known) (b tr ra : Bool) → Turns x s t tr ra → Turns x s u tr ra → Turns x s (cond b t u) tr ra
 turns-if x s t u true tr ra h k = h
 turns-if x s t u false tr ra h k = k
-
-and-true : (b : Bool) → (b && true) ≡ b
-and-true true = refl
-and-true false = refl
-
-and-false : (b : Bool) → (b && false) ≡ false
-and-false true = refl
-and-false false = refl
 
 -- an lvalue is tracked unless it has a name
 turns-tracking : (x l : ℕ) (s t u : Known) (b : Bool) → t .tracked ≡ s .tracked → t .exposed ≡ s .exposed → u .tracked ≡ s .tracked → u .exposed ≡ s .exposed → Turns x s (cond (not b) (tracking l t) u) (eqb x l && not b) false
@@ -85,10 +78,6 @@ among x is = some (λ (i : IdentifierId). eqb x (i .0)) is
 -- x is found by an act that uses it while it is unnamed, not constant and exposed
 due : Known → ℕ → Bool
 due s x = not (s .named x) && (not (s .constant x) && s .exposed x)
-
-or-false : (b : Bool) → (b || false) ≡ b
-or-false true = refl
-or-false false = refl
 
 same-found : (x : ℕ) (s t : Known) → t .found ≡ s .found → among x (t .found) ≡ (among x (s .found) || false)
 same-found x s t e = ap (among x) e ∙ sym (or-false (among x (s .found)))
@@ -182,10 +171,6 @@ module _ (named : ℕ → Bool) (acts : List third.Act) (x : ℕ) where
         (λ more. ⊎-elim (λ less. h .last j less l p) (λ less. last (h .at) less (omega (arith, h .after, h .since)) (h .tracked)) more)
         (cases-order (h .at) j))
   exposed-so k b c (opened j w p last l o q) h = refl
-
-  was-not : (b : Bool) → not b ≡ true → b ≡ false
-  was-not false e = refl
-  was-not true e = true-false _ e refl
 
   found-here : (k : ℕ) → k < length acts → (usesIt x (actAt named acts k) && due (at k) x) ≡ true → FoundAt named acts x k
   unfolding due

@@ -27,6 +27,7 @@ use Rattle.reasons.specs.Journals.{names, isNamed, firsts, declares}
 use Rattle.reasons.specs.Escapes.{escaped}
 use Rattle.reasons.specs.Coverings.{covers, filter, Covered, with-rows, entering, reaching, covering, early, between, before, visits, late, coverings, journal}
 use Rattle.reasons.specs.Laws.{firstReason, Once, visited, Sixth, JournalLaws}
+use Rattle.reasons.proofs.Bools.{or-true, and-false}
 use Rattle.reasons.proofs.Admitting.{some-append}
 
 -- the first rows keep of each identifier the first reason, unless it had a name
@@ -66,12 +67,8 @@ none-of i named (r ∷ rows) e =
       ap (names i) (cond-false _ _ _ free)
       ∙ or-from (eqb i (r .identifier .0)) (names i (firsts (λ k. eqb k (r .identifier .0) || named k) rows))
         (ne-eqb i (r .identifier .0) (λ q. let z : _≡_ {A = Bool} true false = sym e ∙ ap named q ∙ free in let k : _≡_ {A = ℕ} 0 1 = cc in omega arith))
-        (none-of i (λ k. eqb k (r .identifier .0) || named k) rows (or-true (eqb i (r .identifier .0)) (named i) e)))
+        (none-of i (λ k. eqb k (r .identifier .0) || named k) rows (ap (λ b. eqb i (r .identifier .0) || b) e ∙ or-true (eqb i (r .identifier .0)))))
     (cases-bool (named (r .identifier .0)))
-  where
-  or-true : (a b : Bool) → b ≡ true → (a || b) ≡ true
-  or-true true b e = refl
-  or-true false b e = e
 
 once-firsts : (named : ℕ → Bool) (rows : List JournalRow) → Once (firsts named rows)
 once-firsts named [] = tt
@@ -186,11 +183,6 @@ first-filtered m why done i (x ∷ is) =
         (λ other. ap (λ b. cond ((b || some (λ (y : IdentifierId). eqb i (y .0)) is) && done (declarationOf m i)) (Some why) None) (sym other))
         (cases-bool (eqb i (x .0))))
     (cases-bool (done (declarationOf m (x .0))))
-  where
-  and-false : (b : Bool) → (b && false) ≡ false
-  and-false true = refl
-  and-false false = refl
-
 module _ (m : Model) (ps : Span) (rs : List Row) (i : ℕ) where
   abbrev earlier : List JournalRow
   earlier = early m ps rs ++ between m ps rs

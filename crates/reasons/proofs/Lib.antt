@@ -1,3 +1,4 @@
+pub mod Bools
 pub mod Admitting
 pub mod Views
 pub mod Steps

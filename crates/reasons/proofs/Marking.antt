@@ -27,6 +27,7 @@ use Rattle.collect.specs.Links.{along, scopesAlong, isAlong, trailOf}
 use Rattle.collect.specs.Promotable as table
 use Rattle.collect.proofs.Keeping as keeping
 use Rattle.reasons.specs.Escapes as known
+use Rattle.reasons.proofs.Bools.{or-true, or-false}
 use Rattle.reasons.proofs.Early.{Static}
 
 -- the scopes along a link, through trail rows below a bound
@@ -80,14 +81,6 @@ agrees-escaped (seen-at w l at b e c f) = f
 as-tagged : {trail : List Trail} {used : ℕ} {s : known.Seen} {w : Work} → Agrees trail used s w → Agrees trail used s (table.as-tag w)
 as-tagged (unseen w a b) = unseen (table.as-tag w) a b
 as-tagged (seen-at w l at b e c f) = seen-at (table.as-tag w) l at b e c f
-
-or-true : (b : Bool) → (b || true) ≡ true
-or-true true = refl
-or-true false = refl
-
-or-false : (b : Bool) → (b || false) ≡ b
-or-false true = refl
-or-false false = refl
 
 -- what the first pass leaves alone
 pub record Plain (w : Work) : Type 0 where

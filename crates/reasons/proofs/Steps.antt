@@ -20,6 +20,7 @@ use Rattle.promote.specs.Identifier.{promoted, promoteIf, promoteUnnamed, isUnn
 use Rattle.promote.proofs.Growing.{grows-if, sound-grows}
 use Rattle.reasons.specs.Journals.{declares}
 use Rattle.reasons.specs.Coverings.{covers, filter}
+use Rattle.reasons.proofs.Bools.{or-true, or-false, and-true, and-false}
 use Rattle.reasons.proofs.Admitting.{taken, admit, some-append}
 use Rattle.reasons.proofs.Views.{View, view-unnamed, view-promoted}
 
@@ -32,14 +33,6 @@ pub record Goes (m : Model) (next : List JournalRow → ℕ → Bool) (keep : Id
 pub record Seen (m : Model) (up out : ℕ → Bool) (next : List JournalRow → ℕ → Bool) (js : List JournalRow) (t : Tables) : Type 0 where
   pub view : View m up out (next js) js t
   pub sound : Sound t
-
-and-true : (b : Bool) → (b && true) ≡ b
-and-true true = refl
-and-true false = refl
-
-and-false : (b : Bool) → (b && false) ≡ false
-and-false true = refl
-and-false false = refl
 
 module _ (m : Model) (up out : ℕ → Bool) (next : List JournalRow → ℕ → Bool) (why : Reason) (f : Tables → IdentifierId → Tables) (flag : Tables → IdentifierId → Bool) (keep : IdentifierId → Bool) (goes : Goes m next keep) (is : (t : Tables) (i : IdentifierId) → f t i ≡ promoteIf (isUnnamed (t .env) i && flag t i) why t i) (agree : (js : List JournalRow) (t : Tables) (i : IdentifierId) → View m up out (next js) js t → Sound t → Known m i → flag t i ≡ keep i) where
   module _ (js : List JournalRow) (t : Tables) (s : Seen m up out next js t) (i : IdentifierId) (h : Known m i) where
@@ -93,14 +86,6 @@ filter-all (x ∷ xs) = ap (λ ys. x ∷ ys) (filter-all xs)
 
 pub unnamed-is : (why : Reason) (t : Tables) (i : IdentifierId) → promoteUnnamed why t i ≡ promoteIf (isUnnamed (t .env) i && true) why t i
 unnamed-is why t i = ap (λ b. promoteIf b why t i) (sym (and-true (isUnnamed (t .env) i)))
-
-or-true : (b : Bool) → (b || true) ≡ true
-or-true true = refl
-or-true false = refl
-
-or-false : (b : Bool) → (b || false) ≡ b
-or-false true = refl
-or-false false = refl
 
 -- in the passes before the last, a declaration is promoted once a row of it is journalled
 pub goes-declares : (m : Model) (keep : IdentifierId → Bool) → Goes m (declares m) keep

@@ -19,17 +19,10 @@ use Rattle.reactive.specs.Rows.{Row, head, is}
 use Rattle.walk.specs.Events.{Event, entering, leaving, closing, staying, events, actsOf}
 use Rattle.collect.specs.Promotable as table
 use Rattle.reasons.specs.Coverings.{upper}
+use Rattle.reasons.proofs.Bools.{or-false, or-assoc}
 use Rattle.reasons.proofs.Admitting.{some-append}
 use Rattle.reasons.proofs.Early.{Static}
 use Rattle.reasons.proofs.Marking.{tagsAfter, tagging}
-
-or-assoc : (a b c : Bool) → ((a || b) || c) ≡ (a || (b || c))
-or-assoc true b c = refl
-or-assoc false b c = refl
-
-or-false : (b : Bool) → (b || false) ≡ b
-or-false true = refl
-or-false false = refl
 
 some-map : {A B : Type 0} (p : B → Bool) (f : A → B) (xs : List A) → some p (map f xs) ≡ some (λ x. p (f x)) xs
 some-map p f [] = refl
@@ -82,10 +75,6 @@ module _ (m : Model) (static : Static m) (d : ℕ) where
   no-leaf r n ne e =
       let c = eqb-true (r .code) n e in
       ap (λ b. (b && eqb (r .kind) 15) && some (λ i. eqb (declarationOf m (i .0)) d) (r .marks)) (ap (λ k. eqb k 5) c ∙ ne-eqb n 5 ne)
-
-  and-assoc : (a b c : Bool) → ((a && b) && c) ≡ (a && (b && c))
-  and-assoc true b c = refl
-  and-assoc false b c = refl
 
   of-row : (r : Row) → some flagged (table.rowActs r) ≡ tags r
   unfolding flagged tags

@@ -24,6 +24,7 @@ use Rattle.promote.proofs.Growing.{Kept, kept, grows-none, grows-trans, grows-p
 use Rattle.walk.proofs.Rows.{over-append}
 use Rattle.reasons.specs.Journals.{names, isNamed, declares, nameOne, nameAll}
 use Rattle.reasons.specs.Coverings.{covers, filter}
+use Rattle.reasons.proofs.Bools.{or-swap}
 use Rattle.reasons.proofs.Admitting.{taken, admit, taken-push}
 
 -- naming the identifier of a row leaves it named, and no other
@@ -52,18 +53,6 @@ pub record View (m : Model) (up out done : ℕ → Bool) (js : List JournalRow) 
   pub escaped : (d : ℕ) → d < length (m .identifiers) → workOf (t .notes) d .escaped ≡ out d
   pub promoted-so : (d : ℕ) → d < length (m .identifiers) → workOf (t .notes) d .promoted ≡ done d
 
-or-not : (a b c : Bool) → not (a || (b || c)) ≡ not (b || (a || c))
-or-not true true c = refl
-or-not true false c = refl
-or-not false true c = refl
-or-not false false c = refl
-
-or-three : (a b c : Bool) → (a || (b || c)) ≡ ((b || a) || c)
-or-three true true c = refl
-or-three true false c = refl
-or-three false true c = refl
-or-three false false c = refl
-
 known-after : (up : ℕ → Bool) (m : Model) (r : JournalRow) (js : List JournalRow) → Each (λ x. Known m (x .identifier)) js → Each (λ x. Known (nameOne up m r) (x .identifier)) js
 known-after up m r [] h = tt
 known-after up m r (x ∷ js) h = (simp length-set (h .0), known-after up m r js (h .1))
@@ -74,7 +63,7 @@ named-all up m [] i h = refl
 named-all up m (r ∷ js) i h =
     named-all up (nameOne up m r) js i (known-after up m r js (h .1))
     ∙ ap (λ b. names i js || b) (named-one up m r i (h .0))
-    ∙ or-three (names i js) (eqb i (r .identifier .0)) (isNamed m i)
+    ∙ sym (or-swap (eqb i (r .identifier .0)) (names i js) (isNamed m i))
 
 not-not : (b : Bool) → not (not b) ≡ b
 not-not true = refl
