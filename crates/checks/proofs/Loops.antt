@@ -5,11 +5,11 @@ use mathlib.Core.List.{List}
 use Prim.Native.Nat.{ℕ, _+_, _≤_, _<_}
 use lib.Dec.{eqb}
 use lib.ListN.{length, getD, drop}
+use Rattle.hir.specs.Environments.{unnamed}
 use Rattle.std.proofs.shelf.Tests.{or-left}
 use Rattle.std.proofs.shelf.Lists.{at-drop-more, at-drop-all}
 use Rattle.hir.specs.declared.tables.Identifier.{Identifier}
 use Rattle.hir.specs.Lists.{some}
-use Rattle.checks.specs.Tables.{unnamed}
 
 module _ {A : Type 0} (p : A → Bool) (xs : List A) (i : ℕ) (inv : some p (drop i xs) ≡ some p xs) where
   -- the element at i passes

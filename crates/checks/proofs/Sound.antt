@@ -20,7 +20,7 @@ use Rattle.hir.specs.declared.span.Span.{Span}
 use Rattle.hir.specs.declared.tables.Identifier.{Identifier}
 use Rattle.hir.specs.declared.tables.Scope.{Scope}
 use Rattle.hir.specs.declared.tables.Function.{Function}
-use Rattle.hir.specs.Environments.{Model, no-identifier, no-scope, no-function, rowOf, scopeOf, functionOf}
+use Rattle.hir.specs.Environments.{Model, no-identifier, no-scope, no-function, rowOf, scopeOf, functionOf, unnamed}
 use Rattle.hir.specs.Lists.{some, Each}
 use Rattle.hir.specs.Refusals.{refusedIf, orElse}
 use Rattle.hir.specs.Scratches.{Notes}
@@ -95,7 +95,7 @@ sound-tables m n ps e =
     let few = or-parts (tables.manyIdentifiers m) _ (limit .0) in
     let scopes = or-parts (some (tables.badScope (length is) (m .pool)) (m .scopes)) _ (list .0) in
     let functions = or-parts (some (tables.badFunction (length is) (length (m .functions)) (m .pool)) (m .functions)) (tables.badList (length is) (m .pool) ps) (scopes .1) in
-    let count = or-parts (ltb (length (m .journal)) (m .count)) (ltb (length (m .journal) - m .count) (tables.unnamed is)) (journal .0) in
+    let count = or-parts (ltb (length (m .journal)) (m .count)) (ltb (length (m .journal) - m .count) (unnamed is)) (journal .0) in
     let room = or-parts (ltb (length (n .work)) (length is)) (ltb (length (n .marks)) (length (m .functions))) (scratch .0) in
     record {
       identifiers = ltb-false 65536 (length is) (few .0);
@@ -103,7 +103,7 @@ sound-tables m n ps e =
       tags = λ k h. sound-identifier (length is) (rowOf m k) (none-at (tables.badRow (length is)) is (row .0) k h no-identifier) .1;
       work = ltb-false (length (n .work)) (length is) (room .0);
       marks = ltb-false (length (n .marks)) (length (m .functions)) (room .1);
-      room = omega (arith, ltb-false (length (m .journal)) (m .count) (count .0), ltb-false (length (m .journal) - m .count) (tables.unnamed is) (count .1));
+      room = omega (arith, ltb-false (length (m .journal)) (m .count) (count .0), ltb-false (length (m .journal) - m .count) (unnamed is) (count .1));
       scopes = λ s h. sound-scope (length is) (m .pool) (scopeOf m s) (none-at (tables.badScope (length is) (m .pool)) (m .scopes) (scopes .0) s h no-scope);
       functions = λ f h. sound-function (length is) (length (m .functions)) (m .pool) (functionOf m f) (none-at (tables.badFunction (length is) (length (m .functions)) (m .pool)) (m .functions) (functions .0) f h no-function);
       parameters = present-list (length is) (m .pool) ps (functions .1);

@@ -11,13 +11,12 @@ use Rattle.hir.specs.declared.ids.FunctionId.{FunctionId}
 use Rattle.hir.specs.declared.span.Span.{Span}
 use Rattle.hir.specs.declared.tables.Scope.{Scope}
 use Rattle.hir.specs.declared.tables.Function.{Function}
-use Rattle.hir.specs.Environments.{Model, tagOf, declarationOf, scopeOf, functionOf}
+use Rattle.hir.specs.Environments.{Model, tagOf, declarationOf, scopeOf, functionOf, unnamed}
 use Rattle.hir.specs.Lists.{Each}
 use Rattle.hir.specs.Scratches.{Notes}
 use Rattle.hir.specs.Spans.{identifiersIn, functionsIn}
 use Rattle.reactive.specs.declared.row.Number.the-variants as numbers
 use Rattle.reactive.specs.Rows.{Row}
-use Rattle.checks.specs.Tables.{unnamed}
 use Rattle.checks.specs.Rows.{Sizes, needsScope}
 
 -- each of these identifiers is below the count

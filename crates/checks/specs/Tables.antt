@@ -12,7 +12,7 @@ use Rattle.hir.specs.declared.span.Span.{Span}
 use Rattle.hir.specs.declared.tables.Identifier.{Identifier}
 use Rattle.hir.specs.declared.tables.Scope.{Scope}
 use Rattle.hir.specs.declared.tables.Function.{Function}
-use Rattle.hir.specs.Environments.{Model}
+use Rattle.hir.specs.Environments.{Model, unnamed}
 use Rattle.hir.specs.Lists.{some}
 use Rattle.hir.specs.Refusals.{refusedIf}
 use Rattle.hir.specs.Scratches.{Notes}
@@ -58,11 +58,6 @@ badLists m ps =
     some (badScope (length (m .identifiers)) (m .pool)) (m .scopes)
     || (some (badFunction (length (m .identifiers)) (length (m .functions)) (m .pool)) (m .functions)
     || badList (length (m .identifiers)) (m .pool) ps)
-
--- how many identifiers have no name
-abbrev pub unnamed : List Identifier → ℕ
-unnamed [] = 0
-unnamed (i ∷ is) = cond (eqb (i .tag) 0) 1 0 + unnamed is
 
 -- the count is beyond the journal's length, or fewer rows are free than identifiers have no name
 abbrev pub noRoom : Model → Bool

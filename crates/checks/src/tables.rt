@@ -2,11 +2,11 @@
 ghost use mathlib.Core.Path.{_≡_};
 ghost use lib.Dec.{leb};
 ghost use lib.ListN.{length};
-ghost use Rattle.hir.specs.Environments.{model};
+ghost use Rattle.hir.specs.Environments.{model, unnamed};
 ghost use Rattle.hir.specs.Lists.{some};
 ghost use Rattle.hir.specs.Refusals.{answered};
 ghost use Rattle.hir.specs.Scratches.{noted};
-ghost use Rattle.checks.specs.Tables.{longList, longScope, longFunction, passesLimit, badRow, badList, badScope, badFunction, badLists, unnamed, noRoom, littleScratch, tablesRefusal};
+ghost use Rattle.checks.specs.Tables.{longList, longScope, longFunction, passesLimit, badRow, badList, badScope, badFunction, badLists, noRoom, littleScratch, tablesRefusal};
 use hir::environment::Environment;
 use hir::refusal::Refusal;
 use hir::scratch::Scratch;

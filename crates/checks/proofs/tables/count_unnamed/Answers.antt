@@ -1,8 +1,7 @@
 use native.Mathlib.Omega.{arith}
 use Rattle.std.proofs.shelf.Ways.{tells}
 use Rattle.std.proofs.shelf.Lists.{at-drop-all}
-use Rattle.hir.specs.Environments.{no-identifier}
-use Rattle.checks.specs.Tables.{unnamed}
+use Rattle.hir.specs.Environments.{no-identifier, unnamed}
 use Rattle.checks.proofs.Loops.{unnamed-step}
 use Rattle.checks.proofs.tables.count_unnamed.Needs as need
 use Rattle.checks.proofs.tables.count_unnamed.Needs.{then-identifier-eq0, else-identifier-eq0}

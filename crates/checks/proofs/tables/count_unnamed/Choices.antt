@@ -1,7 +1,7 @@
 use mathlib.Core.Path.{_≡_}
 use Prim.Native.Nat.{_+_, _≤_}
 use lib.ListN.{drop}
-use Rattle.checks.specs.Tables.{unnamed}
+use Rattle.hir.specs.Environments.{unnamed}
 use Rattle.checks.proofs.tables.count_unnamed.Given as given
 
 abbrev pub Inv-loop-identifier : given.InvT-loop-identifier
