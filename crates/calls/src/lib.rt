@@ -1,4 +1,6 @@
 // Give, look, spell and run, and lists of such calls.
+#![tactic(auto)]
+
 pub mod gifts;
 pub mod perform;
 pub mod promise;

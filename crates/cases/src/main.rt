@@ -1,4 +1,6 @@
 // Plays the cases of standard input, and prints what each call answered.
+#![tactic(auto)]
+
 mod answers;
 mod ask;
 mod case;

@@ -1,4 +1,6 @@
 // Numbers, tables, the environment and scratch: what the passes read and write.
+#![tactic(auto)]
+
 pub mod environment;
 pub mod ids;
 pub mod refusal;

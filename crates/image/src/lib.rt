@@ -1,4 +1,6 @@
 // The image reader in three layers: bytes, sections, rows.
+#![tactic(auto)]
+
 pub mod bytes;
 pub mod cursor;
 pub mod fault;

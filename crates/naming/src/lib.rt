@@ -1,4 +1,6 @@
 // Texts of promoted names: what a naming promises, and the two namings.
+#![tactic(auto)]
+
 pub mod decimal;
 mod digits;
 pub mod hexadecimal;

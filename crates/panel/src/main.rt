@@ -1,4 +1,6 @@
 // Names the temporaries of a panel and prints an account of it.
+#![tactic(auto)]
+
 mod account;
 mod tables;
 mod words;

@@ -1,2 +1,4 @@
 // Runs over the trees of one image, on one environment.
+#![tactic(auto)]
+
 pub mod session;
