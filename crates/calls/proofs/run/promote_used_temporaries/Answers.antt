@@ -7,33 +7,33 @@ use Rattle.instances.proofs.Passes as instancing
 use Rattle.calls.proofs.Passing.{Passable, passable, ready_collect, ready_interposed, after_collect, after_temporaries, after_interposed}
 use Rattle.calls.proofs.run.promote_used_temporaries.Goals as goal
 
-pub collect-promotable-requires : goal.collect-promotable-requires
-collect-promotable-requires g c =
+pub collect_promotable-requires : goal.collect_promotable-requires
+collect_promotable-requires g c =
     let b = tables c.args.env.now c.args.scratch.now in
     let rs = (g.S.TreeSource.reading c.args.source.now).rows in
     let p = passable b c.args.parameters rs c.requires in
     record { shallow = p.shallow; ready = ready_collect c.args.parameters rs b _ p (λ i. both (model c.args.env.now) (c.reset.ensures i)) }
 
-pub promote-temporaries-requires : goal.promote-temporaries-requires
-promote-temporaries-requires g c =
+pub promote_temporaries-requires : goal.promote_temporaries-requires
+promote_temporaries-requires g c =
     let b = tables c.args.env.now c.args.scratch.now in
     let p = passable b c.args.parameters _ c.requires in
-    let q = after_collect c.args.parameters b _ _ _ _ p (λ i. both (model c.args.env.now) (c.reset.ensures i)) c.collect-promotable.ensures.after (ap (λ (s : Reading). s.rows) c.collect-promotable.ensures.source) in
+    let q = after_collect c.args.parameters b _ _ _ _ p (λ i. both (model c.args.env.now) (c.reset.ensures i)) c.collect_promotable.ensures.after (ap (λ (s : Reading). s.rows) c.collect_promotable.ensures.source) in
     record { shallow = q.shallow; known = q.parameters; ready = visiting.ready_rows _ _ q.sound q.rows }
 
-pub promote-interposed-requires : goal.promote-interposed-requires
-promote-interposed-requires g c =
+pub promote_interposed-requires : goal.promote_interposed-requires
+promote_interposed-requires g c =
     let b = tables c.args.env.now c.args.scratch.now in
     let p = passable b c.args.parameters _ c.requires in
-    let q = after_collect c.args.parameters b _ _ _ _ p (λ i. both (model c.args.env.now) (c.reset.ensures i)) c.collect-promotable.ensures.after (ap (λ (s : Reading). s.rows) c.collect-promotable.ensures.source) in
-    let r = after_temporaries c.args.parameters _ _ _ _ q c.promote-temporaries.ensures.after (ap (λ (s : Reading). s.rows) c.promote-temporaries.ensures.source) in
+    let q = after_collect c.args.parameters b _ _ _ _ p (λ i. both (model c.args.env.now) (c.reset.ensures i)) c.collect_promotable.ensures.after (ap (λ (s : Reading). s.rows) c.collect_promotable.ensures.source) in
+    let r = after_temporaries c.args.parameters _ _ _ _ q c.promote_temporaries.ensures.after (ap (λ (s : Reading). s.rows) c.promote_temporaries.ensures.source) in
     record { shallow = r.shallow; ready = ready_interposed c.args.parameters _ _ r }
 
-pub promote-all-instances-requires : goal.promote-all-instances-requires
-promote-all-instances-requires g c =
+pub promote_all_instances-requires : goal.promote_all_instances-requires
+promote_all_instances-requires g c =
     let b = tables c.args.env.now c.args.scratch.now in
     let p = passable b c.args.parameters _ c.requires in
-    let q = after_collect c.args.parameters b _ _ _ _ p (λ i. both (model c.args.env.now) (c.reset.ensures i)) c.collect-promotable.ensures.after (ap (λ (s : Reading). s.rows) c.collect-promotable.ensures.source) in
-    let r = after_temporaries c.args.parameters _ _ _ _ q c.promote-temporaries.ensures.after (ap (λ (s : Reading). s.rows) c.promote-temporaries.ensures.source) in
-    let s = after_interposed c.args.parameters _ _ _ _ r c.promote-interposed.ensures.after (ap (λ (x : Reading). x.rows) c.promote-interposed.ensures.source) in
+    let q = after_collect c.args.parameters b _ _ _ _ p (λ i. both (model c.args.env.now) (c.reset.ensures i)) c.collect_promotable.ensures.after (ap (λ (s : Reading). s.rows) c.collect_promotable.ensures.source) in
+    let r = after_temporaries c.args.parameters _ _ _ _ q c.promote_temporaries.ensures.after (ap (λ (s : Reading). s.rows) c.promote_temporaries.ensures.source) in
+    let s = after_interposed c.args.parameters _ _ _ _ r c.promote_interposed.ensures.after (ap (λ (x : Reading). x.rows) c.promote_interposed.ensures.source) in
     record { shallow = s.shallow; known = s.parameters; ready = instancing.ready_rows _ _ s.sound s.rows }

@@ -7,12 +7,12 @@ use Rattle.checks.proofs.Seeing as seeing
 use Rattle.checks.proofs.rows.check_all.Goals as goal
 use Rattle.checks.proofs.rows.check_all.Goals.{then_is, else_is}
 
-pub returns-then-passes-limit : goal.returns-then-passes-limit
-returns-then-passes-limit g c =
+pub returns-then-passes_limit : goal.returns-then-passes_limit
+returns-then-passes_limit g c =
     let gave = c.in-Some.ensures.value in
     let on = c.next.ensures.after in
     record {
-      value = refuses _ _ _ (seeing.over_limit c.loop-row.invariant c.in-Some.row gave on c.if-passes-limit.ensures);
+      value = refuses _ _ _ (seeing.over_limit c.loop-row.invariant c.in-Some.row gave on c.if-passes_limit.ensures);
       rows = seeing.rows_same c.loop-row.invariant c.in-Some.row gave on;
     }
 
@@ -21,7 +21,7 @@ returns-then-row-gt-DEEPEST g c =
     let gave = c.in-Some.ensures.value in
     let on = c.next.ensures.after in
     record {
-      value = refuses _ _ _ (seeing.over_depth c.loop-row.invariant c.in-Some.row gave on c.if-passes-limit.ensures c.if-row-gt-DEEPEST.true);
+      value = refuses _ _ _ (seeing.over_depth c.loop-row.invariant c.in-Some.row gave on c.if-passes_limit.ensures c.if-row-gt-DEEPEST.true);
       rows = seeing.rows_same c.loop-row.invariant c.in-Some.row gave on;
     }
 
@@ -30,22 +30,22 @@ returns-then-not-enter g c =
     let gave = c.in-Some.ensures.value in
     let on = c.next.ensures.after in
     record {
-      value = refuses _ _ _ (seeing.over_shape c.loop-row.invariant c.in-Some.row gave on c.if-passes-limit.ensures c.if-row-gt-DEEPEST.false c.if-not-enter.ensures.value);
+      value = refuses _ _ _ (seeing.over_shape c.loop-row.invariant c.in-Some.row gave on c.if-passes_limit.ensures c.if-row-gt-DEEPEST.false c.if-not-enter.ensures.value);
       rows = seeing.rows_same c.loop-row.invariant c.in-Some.row gave on;
     }
 
-pub wrong-fields-requires : goal.wrong-fields-requires
-wrong-fields-requires g c =
+pub wrong_fields-requires : goal.wrong_fields-requires
+wrong_fields-requires g c =
     let gave = c.in-Some.ensures.value in
     let on = c.next.ensures.after in
     record { given = seeing.row_given c.loop-row.invariant c.in-Some.row gave on; row = seeing.row_head c.loop-row.invariant c.in-Some.row gave on }
 
-pub returns-then-wrong-fields : goal.returns-then-wrong-fields
-returns-then-wrong-fields g c =
+pub returns-then-wrong_fields : goal.returns-then-wrong_fields
+returns-then-wrong_fields g c =
     let gave = c.in-Some.ensures.value in
     let on = c.next.ensures.after in
     record {
-      value = refuses _ _ _ (seeing.over_field c.loop-row.invariant c.in-Some.row gave on c.if-passes-limit.ensures c.if-row-gt-DEEPEST.false c.enter.new.self c.if-not-enter.ensures.value c.if-wrong-fields.ensures);
+      value = refuses _ _ _ (seeing.over_field c.loop-row.invariant c.in-Some.row gave on c.if-passes_limit.ensures c.if-row-gt-DEEPEST.false c.enter.new.self c.if-not-enter.ensures.value c.if-wrong_fields.ensures);
       rows = seeing.rows_same c.loop-row.invariant c.in-Some.row gave on;
     }
 
@@ -56,7 +56,7 @@ pub loop-row-preserved : goal.loop-row-preserved
 loop-row-preserved g c =
     let is : c.if-is.scopes ≡ c.loop-row.scopes + cond (eqb c.in-Some.row.code 3) 1 0 = elim c.if-is.branch [ then_is w ↦ grind (arith, nat_tests) | else_is w ↦ grind (arith, nat_tests) ] in
     let few : c.if-is.scopes ≤ c.loop-row.seen + 1 = elim c.if-is.branch [ then_is w ↦ omega (arith, w.scopes-is, c.loop-row.invariant.few) | else_is w ↦ omega (arith, w.scopes-is, c.loop-row.invariant.few) ] in
-    seeing.seen_on c.loop-row.invariant c.in-Some.row c.in-Some.ensures.value c.next.ensures.after c.if-passes-limit.ensures c.if-row-gt-DEEPEST.false c.enter.new.self c.if-not-enter.ensures.value c.if-wrong-fields.ensures c.enter.ensures.high _ is few
+    seeing.seen_on c.loop-row.invariant c.in-Some.row c.in-Some.ensures.value c.next.ensures.after c.if-passes_limit.ensures c.if-row-gt-DEEPEST.false c.enter.new.self c.if-not-enter.ensures.value c.if-wrong_fields.ensures c.enter.ensures.high _ is few
 
 pub returns-in-err-finish : goal.returns-in-err-finish
 returns-in-err-finish g c =

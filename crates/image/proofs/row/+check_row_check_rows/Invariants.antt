@@ -4,14 +4,14 @@ use Rattle.image.specs.Steps.{row_at}
 use Rattle.image.proofs.Turns.{Sofar}
 use Rattle.image.proofs.row.+check_row_check_rows.Given as goal
 
-abbrev pub decreases-check-row : goal.decreases-check-row
-decreases-check-row l = 2 * l.left
+abbrev pub decreases-check_row : goal.decreases-check_row
+decreases-check_row l = 2 * l.left
 
-abbrev pub decreases-check-rows : goal.decreases-check-rows
-decreases-check-rows l = 2 * l.left + 1
+abbrev pub decreases-check_rows : goal.decreases-check_rows
+decreases-check_rows l = 2 * l.left + 1
 
-abbrev pub invariant-check-rows-loop-rest : goal.invariant-check-rows-loop-rest
-invariant-check-rows-loop-rest l = Sofar (row_at l.left) (see l.cursor) (see l.rest)
+abbrev pub invariant-check_rows-loop-rest : goal.invariant-check_rows-loop-rest
+invariant-check_rows-loop-rest l = Sofar (row_at l.left) (see l.cursor) (see l.rest)
 
-abbrev pub decreases-check-rows-loop-rest : goal.decreases-check-rows-loop-rest
-decreases-check-rows-loop-rest l = length l.rest.rest.now
+abbrev pub decreases-check_rows-loop-rest : goal.decreases-check_rows-loop-rest
+decreases-check_rows-loop-rest l = length l.rest.rest.now

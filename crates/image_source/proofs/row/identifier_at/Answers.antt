@@ -6,4 +6,4 @@ pub returns-then-i-bytes : goal.returns-then-i-bytes
 returns-then-i-bytes c = ident_past c.args.list.bytes.now c.args.i (omega arith)
 
 pub returns : goal.returns
-returns c = ident_at c.args.list.bytes.now c.args.i _ (omega arith) c.u32-of.ensures
+returns c = ident_at c.args.list.bytes.now c.args.i _ (omega arith) c.u32_of.ensures

@@ -6,8 +6,8 @@ pub returns : goal.returns
 returns c = λ i. record {
   depth = c.args.depth;
   code = c.args.fields.code;
-  identifier = c.identifier-of.ensures i;
-  number = c.number-of.ensures i;
+  identifier = c.identifier_of.ensures i;
+  number = c.number_of.ensures i;
   kind = c.args.fields.kind;
   mode = c.args.fields.mode;
   operands = sym (length_idents c.args.fields.operands.bytes.now) i;

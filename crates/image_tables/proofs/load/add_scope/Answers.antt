@@ -4,8 +4,8 @@ use Rattle.image.specs.Steps.{both, numbers_at}
 use Rattle.image_tables.proofs.Chunks.{next_room, first_reads, second_reads}
 use Rattle.image_tables.proofs.load.add_scope.Goals as goal
 
-pub add-list-requires-2 : goal.add-list-requires-2
-add-list-requires-2 c =
+pub add_list-requires-2 : goal.add_list-requires-2
+add_list-requires-2 c =
     let a = c.in-ok-dependencies.ensures.added in
     let q = see c.in-ok-dependencies.rest in
     let size = c.args.pool.now.ok.0 in
@@ -13,11 +13,11 @@ add-list-requires-2 c =
     record {
       inside = n.0;
       reads = first_reads numbers_at q (second_reads (both numbers_at numbers_at) (0, c.args.content.now) a.list q c.requires.reads a.reads);
-      room = omega (arith, n.1, c.add-list.new.pool.ok.0);
+      room = omega (arith, n.1, c.add_list.new.pool.ok.0);
     }
 
-pub add-list-requires-3 : goal.add-list-requires-3
-add-list-requires-3 c =
+pub add_list-requires-3 : goal.add_list-requires-3
+add_list-requires-3 c =
     let a = c.in-ok-dependencies.ensures.added in
     let b = c.in-ok-declarations.ensures.added in
     let p = see c.in-ok-dependencies.rest in
@@ -28,5 +28,5 @@ add-list-requires-3 c =
     record {
       inside = m.0;
       reads = second_reads numbers_at p b.list q (second_reads (both numbers_at numbers_at) (0, c.args.content.now) a.list p c.requires.reads a.reads) b.reads;
-      room = omega (arith, m.1, c.add-list-2.new.pool.ok.0);
+      room = omega (arith, m.1, c.add_list-2.new.pool.ok.0);
     }

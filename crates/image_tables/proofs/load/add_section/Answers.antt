@@ -4,15 +4,15 @@ use Rattle.image_check.specs.Steps.{identifiers_of}
 use Rattle.image_tables.specs.Tables.{identifier_row, NewRows, NewBy}
 use Rattle.image_tables.proofs.load.add_section.Goals as goal
 
-pub returns-in-ok-add-identifiers : goal.returns-in-ok-add-identifiers
-returns-in-ok-add-identifiers c =
+pub returns-in-ok-add_identifiers : goal.returns-in-ok-add_identifiers
+returns-in-ok-add_identifiers c =
     let bs = c.in-Identifiers.content.now in
     let pool = vec_items c.args.tables.now.pool in
     let new : NewRows = record { identifiers = identifiers_of (length bs / 5) bs; scopes = []; functions = []; panels = [] } in
     record {
       added = record {
         rows = new;
-        identifiers = c.in-ok-add-identifiers.ensures.items;
+        identifiers = c.in-ok-add_identifiers.ensures.items;
         scopes = sym (append-nil _);
         functions = sym (append-nil _);
         panels = sym (append-nil _);
@@ -31,7 +31,7 @@ returns-in-ok-push c =
         scopes = c.in-ok-push.ensures.items;
         functions = sym (append-nil _);
         panels = sym (append-nil _);
-        by = subst (λ s. NewBy (held s).rank (held s).bytes (vec_items c.args.tables.now.pool) new (vec_items c.add-scope.new.pool)) (sym c.in-Scope.is) (c.in-ok-scope.scope, refl, c.in-ok-scope.ensures.added);
+        by = subst (λ s. NewBy (held s).rank (held s).bytes (vec_items c.args.tables.now.pool) new (vec_items c.add_scope.new.pool)) (sym c.in-Scope.is) (c.in-ok-scope.scope, refl, c.in-ok-scope.ensures.added);
       };
       fault = tt;
     }
@@ -46,7 +46,7 @@ returns-in-ok-push-2 c =
         scopes = sym (append-nil _);
         functions = c.in-ok-push-2.ensures.items;
         panels = sym (append-nil _);
-        by = subst (λ s. NewBy (held s).rank (held s).bytes (vec_items c.args.tables.now.pool) new (vec_items c.add-function.new.pool)) (sym c.in-Function.is) (c.in-ok-function.function, refl, c.in-ok-function.ensures.added);
+        by = subst (λ s. NewBy (held s).rank (held s).bytes (vec_items c.args.tables.now.pool) new (vec_items c.add_function.new.pool)) (sym c.in-Function.is) (c.in-ok-function.function, refl, c.in-ok-function.ensures.added);
       };
       fault = tt;
     }
@@ -61,7 +61,7 @@ returns-in-ok-push-3 c =
         scopes = sym (append-nil _);
         functions = sym (append-nil _);
         panels = c.in-ok-push-3.ensures.items;
-        by = subst (λ s. NewBy (held s).rank (held s).bytes (vec_items c.args.tables.now.pool) new (vec_items c.add-panel.new.pool)) (sym c.in-Tree.is) (c.in-ok-panel.panel, refl, c.in-ok-panel.ensures.added);
+        by = subst (λ s. NewBy (held s).rank (held s).bytes (vec_items c.args.tables.now.pool) new (vec_items c.add_panel.new.pool)) (sym c.in-Tree.is) (c.in-ok-panel.panel, refl, c.in-ok-panel.ensures.added);
       };
       fault = tt;
     }

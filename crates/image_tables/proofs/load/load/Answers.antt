@@ -8,8 +8,8 @@ pub returns-in-err-open : goal.returns-in-err-open
 returns-in-err-open c =
     absurd (open_never c.args.image.now (see_reader c.loop-reader.reader) c.loop-reader.tables c.loop-reader.invariant (false-eqb _ 0 c.loop-reader-test.ensures) _ c.in-err-open.ensures.is)
 
-pub add-section-requires : goal.add-section-requires
-add-section-requires c =
+pub add_section-requires : goal.add_section-requires
+add_section-requires c =
     let bs = c.args.image.now in
     let q = see_reader c.loop-reader.reader in
     let t = c.loop-reader.tables in
@@ -29,8 +29,8 @@ loop-reader-preserved c =
     let some = false-eqb _ 0 c.loop-reader-test.ensures in
     let o = see_open c.in-ok-open.open in
     let h = held c.section-section.result in
-    subst (λ (p : Place). Loading bs p c.add-section.new.tables) (sym c.skip-reader.ensures)
-    (turn bs q t c.loop-reader.invariant some o h c.in-ok-open.ensures.is c.section-section.ensures c.add-section.new.tables c.in-ok-add-section.ensures.added c.in-ok-open.ensures.inside.0.behind)
+    subst (λ (p : Place). Loading bs p c.add_section.new.tables) (sym c.skip-reader.ensures)
+    (turn bs q t c.loop-reader.invariant some o h c.in-ok-open.ensures.is c.section-section.ensures c.add_section.new.tables c.in-ok-add_section.ensures.added c.in-ok-open.ensures.inside.0.behind)
 
 pub returns : goal.returns
 returns c = (omega arith, end c.args.image.now (see_reader c.loop-reader.reader) c.loop-reader.tables c.loop-reader.invariant (true-eqb _ 0 c.loop-reader-test.ensures))

@@ -12,9 +12,9 @@ use Rattle.instances.proofs.instances.promote_all_instances.Goals as goal
 pub walk-requires : goal.walk-requires
 walk-requires g c =
     let b = tables c.args.env.now c.args.scratch.now in
-    let on = tables c.promote-all-instances-list.new.env c.promote-all-instances-list.new.scratch in
+    let on = tables c.promote_all_instances_list.new.env c.promote_all_instances_list.new.scratch in
     let rows = (g.S.TreeSource.reading c.args.source.now).rows in
-    let grown = subst (Grows b) (sym c.promote-all-instances-list.ensures) (grows_list b _ c.requires.ready.sound c.requires.known) in
+    let grown = subst (Grows b) (sym c.promote_all_instances_list.ensures) (grows_list b _ c.requires.ready.sound c.requires.known) in
     record {
       shallow = c.requires.shallow;
       allowed = tables_allowed does Ready splits acts (events [] rows) (whole _ on) (ready_grows b on (pass_acts rows) c.requires.ready grown);
@@ -22,11 +22,11 @@ walk-requires g c =
 
 pub returns : goal.returns
 returns g c =
-    let on = tables c.promote-all-instances-list.new.env c.promote-all-instances-list.new.scratch in
+    let on = tables c.promote_all_instances_list.new.env c.promote_all_instances_list.new.scratch in
     let rows = (g.S.TreeSource.reading c.args.source.now).rows in
     record {
       after =
           ap (λ (w : Whole PromoteAllInstances). w.tables) (c.walk.ensures.after ∙ tables_over does Ready splits acts (events [] rows) (whole _ on))
-          ∙ ap (λ (t : Tables). over does t (pass_acts rows)) c.promote-all-instances-list.ensures;
+          ∙ ap (λ (t : Tables). over does t (pass_acts rows)) c.promote_all_instances_list.ensures;
       source = c.walk.ensures.source;
     }

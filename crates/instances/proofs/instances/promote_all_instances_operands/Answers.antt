@@ -12,8 +12,8 @@ use Rattle.instances.proofs.instances.promote_all_instances_operands.Goals.{in-S
 pub loop-i-init : goal.loop-i-init
 loop-i-init g c = doing_none does Ready splits again _ _ c.requires.ready
 
-pub promote-all-instances-place-requires : goal.promote-all-instances-place-requires
-promote-all-instances-place-requires g c =
+pub promote_all_instances_place-requires : goal.promote_all_instances_place-requires
+promote_all_instances_place-requires g c =
     let r = doing_one does Ready splits again _ _ _ _ c.in-Some.id c.loop-i.invariant (found_here (λ r. r.operands) (g.S.TreeSource.reading c.args.source.now) c.loop-i.i c.requires.given c.in-Some.id c.in-Some.ensures) in
     record { known = r.fits.0; sound = r.sound }
 
@@ -24,7 +24,7 @@ loop-i-preserved g c =
     elim c.match-operand.branch [
       | in-Some w ↦
           subst Inv (λ i. tables (sym w.env-is i) (sym w.scratch-is i))
-          (doing_more does Ready splits again _ _ _ _ w.in-Some.id c.loop-i.invariant (found_here (λ r. r.operands) s c.loop-i.i c.requires.given w.in-Some.id w.in-Some.ensures) _ w.promote-all-instances-place.ensures)
+          (doing_more does Ready splits again _ _ _ _ w.in-Some.id c.loop-i.invariant (found_here (λ r. r.operands) s c.loop-i.i c.requires.given w.in-Some.id w.in-Some.ensures) _ w.promote_all_instances_place.ensures)
       | in-default w ↦
           absurd (found_within (λ r. r.operands) s c.loop-i.i c.requires.given c.args.row.now.operands (ap (λ (r : RowHead). r.operands) c.requires.row) c.loop-i-test.true (sym w.in-default.ensures))
     ]

@@ -8,8 +8,8 @@ use Rattle.interposed.specs.Interposed.{acts, begun}
 use Rattle.interposed.proofs.Passes.{splits}
 use Rattle.interposed.proofs.interposed.promote_interposed.Goals as goal
 
-pub fix-parameters-requires : goal.fix-parameters-requires
-fix-parameters-requires g c =
+pub fix_parameters-requires : goal.fix_parameters-requires
+fix_parameters-requires g c =
     let w = begun (tables c.args.env.now c.args.scratch.now) in
     splits.front w (map fixes (identifiers_in c.args.env.now.pool.now c.args.parameters)) _ c.requires.ready
 
@@ -19,7 +19,7 @@ walk-requires g c =
     let rows = (g.S.TreeSource.reading c.args.source.now).rows in
     record {
       shallow = c.requires.shallow;
-      allowed = acting_allowed does Ready splits acts (events [] rows) _ (ready_onward does Ready splits w _ (map fixes (identifiers_in c.args.env.now.pool.now c.args.parameters)) (acts_of acts (events [] rows)) c.requires.ready c.fix-parameters.ensures);
+      allowed = acting_allowed does Ready splits acts (events [] rows) _ (ready_onward does Ready splits w _ (map fixes (identifiers_in c.args.env.now.pool.now c.args.parameters)) (acts_of acts (events [] rows)) c.requires.ready c.fix_parameters.ensures);
     }
 
 pub returns : goal.returns
@@ -29,7 +29,7 @@ returns g c =
     record {
       after =
           ap (λ (x : State). x.tables)
-          (over_onward does Ready splits w _ _ (map fixes (identifiers_in c.args.env.now.pool.now c.args.parameters)) (acts_of acts (events [] rows)) c.fix-parameters.ensures
+          (over_onward does Ready splits w _ _ (map fixes (identifiers_in c.args.env.now.pool.now c.args.parameters)) (acts_of acts (events [] rows)) c.fix_parameters.ensures
           (c.walk.ensures.after ∙ acting_over does Ready splits acts (events [] rows) _));
       source = c.walk.ensures.source;
     }

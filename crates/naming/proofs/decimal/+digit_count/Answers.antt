@@ -9,5 +9,5 @@ returns-then-number-lt10 t c = record { all = decimal_one c.args.number c.if-num
 pub returns-else-number-lt10 : goal.returns-else-number-lt10
 returns-else-number-lt10 t c =
     let number = c.args.number in
-    let all = decimal_more c.digit-count.result number c.if-number-lt10.false (omega arith) c.digit-count.ensures.all in
+    let all = decimal_more c.digit_count.result number c.if-number-lt10.false (omega arith) c.digit_count.ensures.all in
     record { all = all; few = decimal_few _ number (omega arith) all }

@@ -19,7 +19,7 @@ loop-place-preserved c =
     let place = c.loop-place.place - 1 in
     let next : place + 1 ≡ c.loop-place.place = omega arith in
     let within : place < length places = omega arith in
-    ap (λ d. last_digits base place (rest / base) ++ drop place (set places place d)) c.digit-byte.ensures
+    ap (λ d. last_digits base place (rest / base) ++ drop place (set places place d)) c.digit_byte.ensures
     ∙ place_more base place rest places within
     ∙ ap (λ k. last_digits base k rest ++ drop k places) next
     ∙ c.loop-place.invariant

@@ -11,12 +11,12 @@ loop-n-init c =
     let b = tables c.args.env.now c.args.scratch.now in
     listed_none promote_escaped b (scope_of b.env c.args.id.0).declarations _ c.of-n-items.ensures c.requires.sound (c.requires.sound.scopes c.args.id.0 c.requires.known).declarations
 
-pub promote-escaped-requires : goal.promote-escaped-requires
-promote-escaped-requires c =
+pub promote_escaped-requires : goal.promote_escaped-requires
+promote_escaped-requires c =
     record { known = listed_known promote_escaped grows_escaped _ _ _ _ c.loop-n.invariant (omega arith); sound = c.loop-n.invariant.sound }
 
 pub loop-n-preserved : goal.loop-n-preserved
-loop-n-preserved c = listed_more promote_escaped grows_escaped _ _ _ _ c.loop-n.invariant (omega arith) _ c.promote-escaped.ensures
+loop-n-preserved c = listed_more promote_escaped grows_escaped _ _ _ _ c.loop-n.invariant (omega arith) _ c.promote_escaped.ensures
 
 pub returns : goal.returns
 returns c =

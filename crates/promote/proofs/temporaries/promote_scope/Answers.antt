@@ -9,12 +9,12 @@ use Rattle.promote.proofs.Growing.{grows_none, grows_unnamed}
 use Rattle.promote.proofs.Listing.{next_sound, next_known, next_grows, next_same}
 use Rattle.promote.proofs.temporaries.promote_scope.Goals as goal
 
-pub promote-list-requires-2 : goal.promote-list-requires-2
-promote-list-requires-2 c =
+pub promote_list-requires-2 : goal.promote_list-requires-2
+promote_list-requires-2 c =
     let b = tables c.args.env.now c.args.scratch.now in
     let scope = scope_of b.env c.args.id.0 in
     let sound = c.requires.sound.scopes c.args.id.0 c.requires.known in
-    let g = next_grows (promote_unnamed reasons.Scope) (grows_unnamed reasons.Scope) b b c.requires.sound (grows_none b) scope.dependencies sound.dependencies _ c.promote-list.ensures in
+    let g = next_grows (promote_unnamed reasons.Scope) (grows_unnamed reasons.Scope) b b c.requires.sound (grows_none b) scope.dependencies sound.dependencies _ c.promote_list.ensures in
     record {
       known = next_known (promote_unnamed reasons.Scope) (grows_unnamed reasons.Scope) b _ c.requires.sound g scope.declarations sound.declarations;
       sound = next_sound (promote_unnamed reasons.Scope) (grows_unnamed reasons.Scope) b _ c.requires.sound g scope.declarations sound.declarations;
@@ -25,6 +25,6 @@ returns c =
     let b = tables c.args.env.now c.args.scratch.now in
     let scope = scope_of b.env c.args.id.0 in
     let sound = c.requires.sound.scopes c.args.id.0 c.requires.known in
-    let g = next_grows (promote_unnamed reasons.Scope) (grows_unnamed reasons.Scope) b b c.requires.sound (grows_none b) scope.dependencies sound.dependencies _ c.promote-list.ensures in
-    next_same (promote_unnamed reasons.Scope) (grows_unnamed reasons.Scope) b _ c.requires.sound g scope.declarations sound.declarations _ c.promote-list-2.ensures
-    ∙ ap (λ (t : Tables). over (promote_unnamed reasons.Scope) t (identifiers_in b.env.pool scope.declarations)) c.promote-list.ensures
+    let g = next_grows (promote_unnamed reasons.Scope) (grows_unnamed reasons.Scope) b b c.requires.sound (grows_none b) scope.dependencies sound.dependencies _ c.promote_list.ensures in
+    next_same (promote_unnamed reasons.Scope) (grows_unnamed reasons.Scope) b _ c.requires.sound g scope.declarations sound.declarations _ c.promote_list-2.ensures
+    ∙ ap (λ (t : Tables). over (promote_unnamed reasons.Scope) t (identifiers_in b.env.pool scope.declarations)) c.promote_list.ensures

@@ -15,9 +15,9 @@ use Rattle.promote.proofs.temporaries.promote_temporaries.Goals as goal
 pub walk-requires : goal.walk-requires
 walk-requires g c =
     let b = tables c.args.env.now c.args.scratch.now in
-    let on = tables c.promote-list.new.env c.promote-list.new.scratch in
+    let on = tables c.promote_list.new.env c.promote_list.new.scratch in
     let rows = (g.S.TreeSource.reading c.args.source.now).rows in
-    let grown = subst (Grows b) (sym c.promote-list.ensures) (grows_each (promote_unnamed reasons.OwnParameter) (grows_unnamed reasons.OwnParameter) b _ c.requires.ready.sound c.requires.known) in
+    let grown = subst (Grows b) (sym c.promote_list.ensures) (grows_each (promote_unnamed reasons.OwnParameter) (grows_unnamed reasons.OwnParameter) b _ c.requires.ready.sound c.requires.known) in
     record {
       shallow = c.requires.shallow;
       allowed = tables_allowed does Ready splits acts (events [] rows) (whole _ on) (ready_grows b on (pass_acts rows) c.requires.ready grown);
@@ -25,11 +25,11 @@ walk-requires g c =
 
 pub returns : goal.returns
 returns g c =
-    let on = tables c.promote-list.new.env c.promote-list.new.scratch in
+    let on = tables c.promote_list.new.env c.promote_list.new.scratch in
     let rows = (g.S.TreeSource.reading c.args.source.now).rows in
     record {
       after =
           ap (λ (w : Whole PromoteTemporaries). w.tables) (c.walk.ensures.after ∙ tables_over does Ready splits acts (events [] rows) (whole _ on))
-          ∙ ap (λ (t : Tables). over does t (pass_acts rows)) c.promote-list.ensures;
+          ∙ ap (λ (t : Tables). over does t (pass_acts rows)) c.promote_list.ensures;
       source = c.walk.ensures.source;
     }

@@ -6,5 +6,5 @@ pub place-requires : goal.place-requires
 place-requires c = record {
   high = c.requires.high;
   low = c.requires.low;
-  within = depth_within c.args.self.now.height (map (λ x. x.now) c.args.self.now.rows) c.args.depth (sym c.if-wrong-depth.ensures);
+  within = depth_within c.args.self.now.height (map (λ x. x.now) c.args.self.now.rows) c.args.depth (sym c.if-wrong_depth.ensures);
 }

@@ -14,8 +14,8 @@ use Rattle.collect.proofs.promotable.CollectPromotable.collect_promotable_operan
 pub loop-i-init : goal.loop-i-init
 loop-i-init g c = doing_none does Ready splits sees _ _ c.requires.ready
 
-pub collect-promotable-place-requires : goal.collect-promotable-place-requires
-collect-promotable-place-requires g c =
+pub collect_promotable_place-requires : goal.collect_promotable_place-requires
+collect_promotable_place-requires g c =
     doing_one does Ready splits sees _ _ _ _ c.in-Some.id c.loop-i.invariant
     (found_here (λ r. r.operands) (g.S.TreeSource.reading c.args.source.now) c.loop-i.i c.requires.given c.in-Some.id c.in-Some.ensures)
 
@@ -27,7 +27,7 @@ loop-i-preserved g c =
     elim c.match-operand.branch [
       | in-Some w ↦
           subst Inv (sym w.scratch-is)
-          (doing_more does Ready splits sees _ _ _ _ w.in-Some.id c.loop-i.invariant (found_here (λ r. r.operands) s c.loop-i.i c.requires.given w.in-Some.id w.in-Some.ensures) _ w.collect-promotable-place.ensures)
+          (doing_more does Ready splits sees _ _ _ _ w.in-Some.id c.loop-i.invariant (found_here (λ r. r.operands) s c.loop-i.i c.requires.given w.in-Some.id w.in-Some.ensures) _ w.collect_promotable_place.ensures)
       | in-default w ↦
           absurd (found_within (λ r. r.operands) s c.loop-i.i c.requires.given c.args.row.now.operands (ap (λ (r : RowHead). r.operands) c.requires.row) c.loop-i-test.true (sym w.in-default.ensures))
     ]

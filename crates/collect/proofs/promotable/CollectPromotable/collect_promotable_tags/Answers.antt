@@ -14,8 +14,8 @@ use Rattle.collect.proofs.promotable.CollectPromotable.collect_promotable_tags.G
 pub loop-i-init : goal.loop-i-init
 loop-i-init g c = doing_none does Ready splits flags _ _ c.requires.ready
 
-pub collect-promotable-tag-requires : goal.collect-promotable-tag-requires
-collect-promotable-tag-requires g c =
+pub collect_promotable_tag-requires : goal.collect_promotable_tag-requires
+collect_promotable_tag-requires g c =
     doing_one does Ready splits flags _ _ _ _ c.in-Some.id c.loop-i.invariant
     (found_here (λ r. r.marks) (g.S.TreeSource.reading c.args.source.now) c.loop-i.i c.requires.given c.in-Some.id c.in-Some.ensures)
 
@@ -27,7 +27,7 @@ loop-i-preserved g c =
     elim c.match-mark.branch [
       | in-Some w ↦
           subst Inv (sym w.scratch-is)
-          (doing_more does Ready splits flags _ _ _ _ w.in-Some.id c.loop-i.invariant (found_here (λ r. r.marks) s c.loop-i.i c.requires.given w.in-Some.id w.in-Some.ensures) _ w.collect-promotable-tag.ensures)
+          (doing_more does Ready splits flags _ _ _ _ w.in-Some.id c.loop-i.invariant (found_here (λ r. r.marks) s c.loop-i.i c.requires.given w.in-Some.id w.in-Some.ensures) _ w.collect_promotable_tag.ensures)
       | in-default w ↦
           absurd (found_within (λ r. r.marks) s c.loop-i.i c.requires.given c.args.row.now.marks (ap (λ (r : RowHead). r.marks) c.requires.row) c.loop-i-test.true (sym w.in-default.ensures))
     ]

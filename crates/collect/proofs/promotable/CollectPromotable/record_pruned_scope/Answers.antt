@@ -13,8 +13,8 @@ loop-n-init c =
     listed_none (recorded_at c.args.self.innermost) b (scope_of b.env c.args.id.0).declarations _ c.of-n-items.ensures c.requires.sound
     (c.requires.sound.scopes c.args.id.0 c.requires.fits.0).declarations
 
-pub record-pruned-requires : goal.record-pruned-requires
-record-pruned-requires c =
+pub record_pruned-requires : goal.record_pruned-requires
+record_pruned-requires c =
     let l = c.args.self.innermost in
     record {
       known = listed_known (recorded_at l) (grows_recorded l) _ _ _ _ c.loop-n.invariant (omega arith);
@@ -25,7 +25,7 @@ record-pruned-requires c =
 pub loop-n-preserved : goal.loop-n-preserved
 loop-n-preserved c =
     let l = c.args.self.innermost in
-    listed_more (recorded_at l) (grows_recorded l) _ _ _ _ c.loop-n.invariant (omega arith) _ c.record-pruned.ensures
+    listed_more (recorded_at l) (grows_recorded l) _ _ _ _ c.loop-n.invariant (omega arith) _ c.record_pruned.ensures
 
 pub returns : goal.returns
 returns c =

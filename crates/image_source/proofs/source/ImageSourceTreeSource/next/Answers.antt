@@ -3,62 +3,62 @@ use Rattle.reactive.specs.Rows.{upcoming, advanced}
 use Rattle.image_source.proofs.Keeps.{low, readable, over_value, over_after, room, fits, next_value, next_after, keeps_written, keeps_opened}
 use Rattle.image_source.proofs.source.ImageSourceTreeSource.next.Goals as goal
 
-pub read-head-requires : goal.read-head-requires
-read-head-requires c = readable c.close-ended.new.self
+pub read_head-requires : goal.read_head-requires
+read_head-requires c = readable c.close_ended.new.self
 
 pub returns-in-default : goal.returns-in-default
 returns-in-default c =
-    let s = c.close-ended.new.self in
-    let closed = c.close-ended.ensures.closed in
-    let same = c.close-ended.ensures.same in
+    let s = c.close_ended.new.self in
+    let closed = c.close_ended.ensures.closed in
+    let same = c.close_ended.ensures.same in
     let is = c.in-default.ensures.is in
     record { value = over_value s closed _ is ∙ ap upcoming same; after = over_after s closed _ is ∙ ap advanced same }
 
 pub overflow-cast-at : goal.overflow-cast-at
 overflow-cast-at c =
-    let few : c.close-ended.new.self.at.depth ≤ 128 = low c.close-ended.new.self in
+    let few : c.close_ended.new.self.at.depth ≤ 128 = low c.close_ended.new.self in
     search rules
 
 pub offset-bounds-self-at : goal.offset-bounds-self-at
 offset-bounds-self-at c =
-    let few : c.close-ended.new.self.at.depth ≤ 128 = low c.close-ended.new.self in
+    let few : c.close_ended.new.self.at.depth ≤ 128 = low c.close_ended.new.self in
     search rules
 
 pub bounds-self-at : goal.bounds-self-at
 bounds-self-at c =
-    let s = c.close-ended.new.self in
+    let s = c.close_ended.new.self in
     let size : length s.behind ≡ 128 = omega arith in
     room s size c.in-Ok.fields c.in-Ok.children c.in-Ok.after c.in-Ok.ensures.is
 
 pub invariant-of-self : goal.invariant-of-self
 invariant-of-self c =
-    let s = c.close-ended.new.self in
+    let s = c.close_ended.new.self in
     let size : length s.behind ≡ 128 = omega arith in
     (keeps_written s size c.in-Ok.fields c.in-Ok.children c.in-Ok.after c.in-Ok.ensures.is, tt)
 
 pub overflow-add-self : goal.overflow-add-self
 overflow-add-self c =
-    let few : c.close-ended.new.self.at.depth ≤ 128 = low c.close-ended.new.self in
+    let few : c.close_ended.new.self.at.depth ≤ 128 = low c.close_ended.new.self in
     search rules
 
 pub overflow-add-self-2 : goal.overflow-add-self-2
 overflow-add-self-2 c =
-    let s = c.close-ended.new.self in
+    let s = c.close_ended.new.self in
     let size : length s.behind ≡ 128 = omega arith in
     let few : s.at.given + 1 < 2 ^ 64 = fits s size c.in-Ok.fields c.in-Ok.children c.in-Ok.after c.in-Ok.ensures.is in
     search rules
 
 pub invariant-of-self-2 : goal.invariant-of-self-2
 invariant-of-self-2 c =
-    let s = c.close-ended.new.self in
+    let s = c.close_ended.new.self in
     let size : length s.behind ≡ 128 = omega arith in
     (keeps_opened s size c.in-Ok.fields c.in-Ok.children c.in-Ok.after c.in-Ok.ensures.is, tt)
 
 pub returns : goal.returns
 returns c =
-    let s = c.close-ended.new.self in
+    let s = c.close_ended.new.self in
     let size : length s.behind ≡ 128 = omega arith in
-    let same = c.close-ended.ensures.same in
+    let same = c.close_ended.ensures.same in
     let is = c.in-Ok.ensures.is in
     record {
       value = ap Some c.row_head.ensures ∙ next_value s size c.in-Ok.fields c.in-Ok.children c.in-Ok.after is ∙ ap upcoming same;

@@ -5,5 +5,5 @@ use Rattle.image_source.proofs.state.ImageSource.new.Goals as goal
 
 pub invariant-of-result : goal.invariant-of-result
 invariant-of-result c =
-    let rows = c.checked-rows-rows in
+    let rows = c.checked_rows-rows in
     (∣ starts (see rows.result) (see_standing c.start.result) _ c.start.ensures rows.ensures.inside rows.ensures.fills ∣₁, tt)

@@ -5,19 +5,19 @@ use Rattle.walk.specs.Events.{whole}
 use Rattle.instances.proofs.Passes.{ready_operands, ready_function, leaf_done}
 use Rattle.instances.proofs.instances.PromoteAllInstancesVisitor.enter.Goals as goal
 
-pub promote-all-instances-operands-requires : goal.promote-all-instances-operands-requires
-promote-all-instances-operands-requires g c =
+pub promote_all_instances_operands-requires : goal.promote_all_instances_operands-requires
+promote_all_instances_operands-requires g c =
     let r = last_row (g.S.TreeSource.reading c.args.source.now) in
     record { given = c.requires.given; row = c.requires.row; ready = ready_operands c.args.-parent r c.args.row.now c.requires.row c.if-is.ensures _ c.requires.can }
 
-pub promote-all-instances-function-requires : goal.promote-all-instances-function-requires
-promote-all-instances-function-requires g c =
+pub promote_all_instances_function-requires : goal.promote_all_instances_function-requires
+promote_all_instances_function-requires g c =
     let r = last_row (g.S.TreeSource.reading c.args.source.now) in
-    let ready = ready_function c.args.-parent r c.args.row.now c.requires.row c.if-is.ensures _ c.requires.can _ c.promote-all-instances-operands.ensures c.in-Some.function c.in-Some.ensures in
+    let ready = ready_function c.args.-parent r c.args.row.now c.requires.row c.if-is.ensures _ c.requires.can _ c.promote_all_instances_operands.ensures c.in-Some.function c.in-Some.ensures in
     record { known = ready.fits.0; sound = ready.sound }
 
 pub returns-in-Some : goal.returns-in-Some
 returns-in-Some g c =
     let r = last_row (g.S.TreeSource.reading c.args.source.now) in
     ap (λ (t : Tables). whole c.args.self.now t)
-    (leaf_done c.args.-parent r c.args.row.now c.requires.row c.if-is.ensures _ c.requires.can _ c.promote-all-instances-operands.ensures c.in-Some.function c.in-Some.ensures _ c.promote-all-instances-function.ensures)
+    (leaf_done c.args.-parent r c.args.row.now c.requires.row c.if-is.ensures _ c.requires.can _ c.promote_all_instances_operands.ensures c.in-Some.function c.in-Some.ensures _ c.promote_all_instances_function.ensures)

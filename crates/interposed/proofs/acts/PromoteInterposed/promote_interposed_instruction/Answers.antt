@@ -2,27 +2,27 @@ use Rattle.reactive.specs.Rows.{last_row}
 use Rattle.interposed.proofs.Passes.{ready_begin, ready_value, ready_uses, ready_end, leaf_done}
 use Rattle.interposed.proofs.acts.PromoteInterposed.promote_interposed_instruction.Goals as goal
 
-pub begin-leaf-requires : goal.begin-leaf-requires
-begin-leaf-requires g c =
+pub begin_leaf-requires : goal.begin_leaf-requires
+begin_leaf-requires g c =
     let r = last_row (g.S.TreeSource.reading c.args.source.now) in
     record { given = c.requires.given; row = c.requires.row; ready = ready_begin c.args.lvalue c.args.row.now.kind c.args.row.now.mode r.marks r.operands _ c.requires.ready }
 
-pub load-value-requires : goal.load-value-requires
-load-value-requires g c =
+pub load_value-requires : goal.load_value-requires
+load_value-requires g c =
     let r = last_row (g.S.TreeSource.reading c.args.source.now) in
-    record { given = c.requires.given; ready = ready_value c.args.lvalue c.args.row.now.kind c.args.row.now.mode r.marks r.operands _ c.requires.ready _ c.begin-leaf.ensures }
+    record { given = c.requires.given; ready = ready_value c.args.lvalue c.args.row.now.kind c.args.row.now.mode r.marks r.operands _ c.requires.ready _ c.begin_leaf.ensures }
 
-pub use-operands-requires : goal.use-operands-requires
-use-operands-requires g c =
+pub use_operands-requires : goal.use_operands-requires
+use_operands-requires g c =
     let r = last_row (g.S.TreeSource.reading c.args.source.now) in
-    record { given = c.requires.given; row = c.requires.row; ready = ready_uses c.args.lvalue c.args.row.now.kind c.args.row.now.mode r.marks r.operands _ c.requires.ready _ c.begin-leaf.ensures _ c.load-value.ensures }
+    record { given = c.requires.given; row = c.requires.row; ready = ready_uses c.args.lvalue c.args.row.now.kind c.args.row.now.mode r.marks r.operands _ c.requires.ready _ c.begin_leaf.ensures _ c.load_value.ensures }
 
-pub end-leaf-requires : goal.end-leaf-requires
-end-leaf-requires g c =
+pub end_leaf-requires : goal.end_leaf-requires
+end_leaf-requires g c =
     let r = last_row (g.S.TreeSource.reading c.args.source.now) in
-    ready_end c.args.lvalue c.args.row.now.kind c.args.row.now.mode r.marks r.operands _ c.requires.ready _ c.begin-leaf.ensures _ c.load-value.ensures _ c.use-operands.ensures
+    ready_end c.args.lvalue c.args.row.now.kind c.args.row.now.mode r.marks r.operands _ c.requires.ready _ c.begin_leaf.ensures _ c.load_value.ensures _ c.use_operands.ensures
 
 pub returns : goal.returns
 returns g c =
     let r = last_row (g.S.TreeSource.reading c.args.source.now) in
-    leaf_done c.args.lvalue c.args.row.now.kind c.args.row.now.mode r.marks r.operands _ c.requires.ready _ c.begin-leaf.ensures _ c.load-value.ensures _ c.use-operands.ensures _ c.end-leaf.ensures
+    leaf_done c.args.lvalue c.args.row.now.kind c.args.row.now.mode r.marks r.operands _ c.requires.ready _ c.begin_leaf.ensures _ c.load_value.ensures _ c.use_operands.ensures _ c.end_leaf.ensures

@@ -13,8 +13,8 @@ use Rattle.interposed.proofs.acts.PromoteInterposed.use_operands.Goals.{in-Some,
 pub loop-i-init : goal.loop-i-init
 loop-i-init g c = doing_none does Ready splits uses _ _ c.requires.ready
 
-pub use-place-requires : goal.use-place-requires
-use-place-requires g c =
+pub use_place-requires : goal.use_place-requires
+use_place-requires g c =
     doing_one does Ready splits uses _ _ _ _ c.in-Some.id c.loop-i.invariant
     (found_here (λ r. r.operands) (g.S.TreeSource.reading c.args.source.now) c.loop-i.i c.requires.given c.in-Some.id c.in-Some.ensures)
 
@@ -25,7 +25,7 @@ loop-i-preserved g c =
     elim c.match-operand.branch [
       | in-Some w ↦
           subst Inv (λ i. whole c.args.self.now (tables (sym w.env-is i) (sym w.scratch-is i)))
-          (doing_more does Ready splits uses _ _ _ _ w.in-Some.id c.loop-i.invariant (found_here (λ r. r.operands) s c.loop-i.i c.requires.given w.in-Some.id w.in-Some.ensures) _ w.use-place.ensures)
+          (doing_more does Ready splits uses _ _ _ _ w.in-Some.id c.loop-i.invariant (found_here (λ r. r.operands) s c.loop-i.i c.requires.given w.in-Some.id w.in-Some.ensures) _ w.use_place.ensures)
       | in-default w ↦
           absurd (found_within (λ r. r.operands) s c.loop-i.i c.requires.given c.args.row.now.operands (ap (λ (r : RowHead). r.operands) c.requires.row) c.loop-i-test.true (sym w.in-default.ensures))
     ]

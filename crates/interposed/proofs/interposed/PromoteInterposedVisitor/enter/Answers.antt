@@ -2,8 +2,8 @@ use Rattle.reactive.specs.Rows.{last_row}
 use Rattle.interposed.proofs.Passes.{ready_elsewhere}
 use Rattle.interposed.proofs.interposed.PromoteInterposedVisitor.enter.Goals as goal
 
-pub use-operands-requires : goal.use-operands-requires
-use-operands-requires g c =
+pub use_operands-requires : goal.use_operands-requires
+use_operands-requires g c =
     record {
       given = c.requires.given;
       row = c.requires.row;

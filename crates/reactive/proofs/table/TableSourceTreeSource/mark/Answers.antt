@@ -6,7 +6,7 @@ use Rattle.reactive.proofs.table.TableSourceTreeSource.mark.Goals as goal
 pub returns-in-Some : goal.returns-in-Some
 returns-in-Some c =
     let s = c.args.self.now in
-    c.identifier-at.ensures ∙ table_list (λ r. r.marks) s.rows.now s.pool.now s.position c.args.i (Some c.in-Some.entry) c.in-Some.ensures
+    c.identifier_at.ensures ∙ table_list (λ r. r.marks) s.rows.now s.pool.now s.position c.args.i (Some c.in-Some.entry) c.in-Some.ensures
 
 pub returns-in-None : goal.returns-in-None
 returns-in-None c =

@@ -1,0 +1,36 @@
+#!/usr/bin/env python3
+"""In proof files of functions, gives names of the code their own spelling: a step or goal that was `digit-count` is `digit_count`.
+
+usage: python3 tools/keep_source_names.py        at the top of the repository, once, after respell_names.py
+"""
+
+import glob
+import re
+
+WORD = re.compile(r"(?<![\w'.])[a-z][a-z0-9]*(?:_[a-z0-9]+)+(?!\w)")
+
+
+def read(path):
+    with open(path, encoding="utf-8") as f:
+        return f.read()
+
+
+def main():
+    words = set()
+    for path in glob.glob("crates/*/src/**/*.rt", recursive=True):
+        for line in read(path).split("\n"):
+            if not line.startswith("ghost use"):
+                words |= set(re.findall(r"(?<![A-Za-z0-9_'])[a-z][a-z0-9]*(?:_[a-z0-9]+)+(?![A-Za-z0-9_])", line))
+    turns = {w.replace("_", "-"): w for w in words}
+    pattern = re.compile(r"(?<![A-Za-z0-9_])(?:%s)(?![A-Za-z0-9_])" % "|".join(sorted(map(re.escape, turns), key=len, reverse=True)))
+    for path in sorted(glob.glob("crates/*/proofs/*/**/*.antt", recursive=True)):
+        text = read(path)
+        lines = [l if l.startswith("use Rattle.std") or l.lstrip().startswith("--") else pattern.sub(lambda m: turns[m[0]], l) for l in text.split("\n")]
+        new = "\n".join(lines)
+        if new != text:
+            with open(path, "w", encoding="utf-8") as f:
+                f.write(new)
+
+
+if __name__ == "__main__":
+    main()
