@@ -7,7 +7,8 @@ usage: python3 tools/keep_source_names.py        at the top of the repository, o
 import glob
 import re
 
-WORD = re.compile(r"(?<![\w'.])[a-z][a-z0-9]*(?:_[a-z0-9]+)+(?!\w)")
+# Words of the kit's own in names of steps.
+KITS = ["in_default", "in_ok", "in_err", "from_residual", "type_inv"]
 
 
 def read(path):
@@ -21,7 +22,9 @@ def main():
         for line in read(path).split("\n"):
             if not line.startswith("ghost use"):
                 words |= set(re.findall(r"(?<![A-Za-z0-9_'])[a-z][a-z0-9]*(?:_[a-z0-9]+)+(?![A-Za-z0-9_])", line))
-    turns = {w.replace("_", "-"): w for w in words}
+    # a name of a step that begins with one of these is a word of the kit's with a name behind it
+    turns = {w.replace("_", "-"): w for w in words if w.split("_")[0] not in ("then", "else", "if", "loop", "in")}
+    turns |= {w.replace("_", "-"): w for w in KITS}
     pattern = re.compile(r"(?<![A-Za-z0-9_])(?:%s)(?![A-Za-z0-9_])" % "|".join(sorted(map(re.escape, turns), key=len, reverse=True)))
     for path in sorted(glob.glob("crates/*/proofs/*/**/*.antt", recursive=True)):
         text = read(path)

@@ -8,13 +8,13 @@ use Rattle.checks.specs.Rows.{sizes, tree_refusal}
 use Rattle.calls.proofs.Passing.{answered_none, answered_some}
 use Rattle.calls.proofs.run.check_run.Goals as goal
 
-pub returns-in-err-check_tables : goal.returns-in-err-check_tables
-returns-in-err-check_tables g c =
-    let p = err_from_is_err_and c.from-residual.result c.from-residual.ensures.1 in
+pub returns-in_err-check_tables : goal.returns-in_err-check_tables
+returns-in_err-check_tables g c =
+    let p = err_from_is_err_and c.from_residual.result c.from_residual.ensures.1 in
     let tree = tree_refusal (sizes (model c.args.env.now)) (length c.args.scratch.now.trail.now) (g.S.TreeSource.reading c.args.source.now).rows in
     rw (p.1, p.2)
     (record {
-      value = sym (ap (λ o. answered (or_else o tree) tt) (answered_some _ _ c.in-err-check_tables.ensures));
+      value = sym (ap (λ o. answered (or_else o tree) tt) (answered_some _ _ c.in_err-check_tables.ensures));
       source = c.rewind.ensures;
     })
 
@@ -25,6 +25,6 @@ returns g c =
       value =
           c.check_rows.ensures.value
           ∙ ap (λ (s : Reading). answered (tree s.rows) tt) c.rewind.ensures
-          ∙ sym (ap (λ o. answered (or_else o (tree (g.S.TreeSource.reading c.args.source.now).rows)) tt) (answered_none _ _ c.in-ok-check_tables.ensures));
+          ∙ sym (ap (λ o. answered (or_else o (tree (g.S.TreeSource.reading c.args.source.now).rows)) tt) (answered_none _ _ c.in_ok-check_tables.ensures));
       source = c.check_rows.ensures.source ∙ ap (λ (s : Reading). rewound s) c.rewind.ensures;
     }

@@ -5,7 +5,7 @@ use Rattle.hir.specs.Refusals.{answered}
 use Rattle.checks.proofs.Answering.{refuses, hands_on, refused_by, not_refused}
 use Rattle.checks.proofs.Seeing as seeing
 use Rattle.checks.proofs.rows.check_all.Goals as goal
-use Rattle.checks.proofs.rows.check_all.Goals.{then_is, else_is}
+use Rattle.checks.proofs.rows.check_all.Goals.{then-is, else-is}
 
 pub returns-then-passes_limit : goal.returns-then-passes_limit
 returns-then-passes_limit g c =
@@ -54,23 +54,23 @@ loop-row-smaller g c = seeing.shrinks c.loop-row.invariant c.in-Some.row c.in-So
 
 pub loop-row-preserved : goal.loop-row-preserved
 loop-row-preserved g c =
-    let is : c.if-is.scopes ≡ c.loop-row.scopes + cond (eqb c.in-Some.row.code 3) 1 0 = elim c.if-is.branch [ then_is w ↦ grind (arith, nat_tests) | else_is w ↦ grind (arith, nat_tests) ] in
-    let few : c.if-is.scopes ≤ c.loop-row.seen + 1 = elim c.if-is.branch [ then_is w ↦ omega (arith, w.scopes-is, c.loop-row.invariant.few) | else_is w ↦ omega (arith, w.scopes-is, c.loop-row.invariant.few) ] in
+    let is : c.if-is.scopes ≡ c.loop-row.scopes + cond (eqb c.in-Some.row.code 3) 1 0 = elim c.if-is.branch [ then-is w ↦ grind (arith, nat_tests) | else-is w ↦ grind (arith, nat_tests) ] in
+    let few : c.if-is.scopes ≤ c.loop-row.seen + 1 = elim c.if-is.branch [ then-is w ↦ omega (arith, w.scopes-is, c.loop-row.invariant.few) | else-is w ↦ omega (arith, w.scopes-is, c.loop-row.invariant.few) ] in
     seeing.seen_on c.loop-row.invariant c.in-Some.row c.in-Some.ensures.value c.next.ensures.after c.if-passes_limit.ensures c.if-row-gt-DEEPEST.false c.enter.new.self c.if-not-enter.ensures.value c.if-wrong_fields.ensures c.enter.ensures.high _ is few
 
-pub returns-in-err-finish : goal.returns-in-err-finish
-returns-in-err-finish g c =
-    let p = err_from_is_err_and c.from-residual.result c.from-residual.ensures.1 in
-    let gave = c.in-default.ensures.value in
+pub returns-in_err-finish : goal.returns-in_err-finish
+returns-in_err-finish g c =
+    let p = err_from_is_err_and c.from_residual.result c.from_residual.ensures.1 in
+    let gave = c.in_default.ensures.value in
     record {
-      value = hands_on c.from-residual.result _ p.0 c.in-err-finish.field-0.0 _ p.1 p.2 (seeing.ends c.loop-row.invariant gave ∙ refused_by _ c.in-err-finish.field-0.0 tt c.in-err-finish.ensures);
+      value = hands_on c.from_residual.result _ p.0 c.in_err-finish.field-0.0 _ p.1 p.2 (seeing.ends c.loop-row.invariant gave ∙ refused_by _ c.in_err-finish.field-0.0 tt c.in_err-finish.ensures);
       rows = seeing.rows_kept c.loop-row.invariant gave c.next.ensures.after;
     }
 
 pub returns : goal.returns
 returns g c =
-    let gave = c.in-default.ensures.value in
-    let sound = seeing.ends c.loop-row.invariant gave ∙ not_refused _ tt tt c.in-ok-finish.ensures in
+    let gave = c.in_default.ensures.value in
+    let sound = seeing.ends c.loop-row.invariant gave ∙ not_refused _ tt tt c.in_ok-finish.ensures in
     record {
       value = sym (λ k. answered (sound k) (sym (seeing.counted c.loop-row.invariant gave) k));
       rows = seeing.rows_kept c.loop-row.invariant gave c.next.ensures.after;

@@ -4,5 +4,5 @@ use Rattle.image.proofs.bytes.read_numbers.Goals as goal
 
 pub returns : goal.returns
 returns c =
-    let b = c.in-ok-count.numbers in
-    record { is = numbers_ok c.args.cursor.at c.args.cursor.rest.now c.in-ok-count.count b.at b.rest.now _ _ c.in-ok-count.ensures.is (omega arith) c.split_at.ensures.front c.split_at.ensures.back; inside = search rules }
+    let b = c.in_ok-count.numbers in
+    record { is = numbers_ok c.args.cursor.at c.args.cursor.rest.now c.in_ok-count.count b.at b.rest.now _ _ c.in_ok-count.ensures.is (omega arith) c.split_at.ensures.front c.split_at.ensures.back; inside = search rules }

@@ -4,5 +4,5 @@ use Rattle.image.proofs.bytes.read_part.Goals as goal
 
 pub returns : goal.returns
 returns c =
-    let b = c.in-ok-length.body in
-    record { is = part_ok c.args.cursor.at c.args.cursor.rest.now c.in-ok-length.length b.at b.rest.now _ _ c.in-ok-length.ensures.is (omega arith) c.split_at.ensures.front c.split_at.ensures.back; inside = search rules }
+    let b = c.in_ok-length.body in
+    record { is = part_ok c.args.cursor.at c.args.cursor.rest.now c.in_ok-length.length b.at b.rest.now _ _ c.in_ok-length.ensures.is (omega arith) c.split_at.ensures.front c.split_at.ensures.back; inside = search rules }

@@ -21,13 +21,13 @@ returns g c =
     let o7 = vec_items c.write_items-2.new.out in
     let ops = numbers.write (map plain r.operands) in
     let mks = numbers.write (map plain r.marks) in
-    let e1 : o1 ≡ o ++ (r.code ∷ []) = c.in-ok-push.ensures.items ∙ ap (λ k. o ++ (k.code ∷ [])) h in
-    let e2 : o2 ≡ o1 ++ be (identifier_word r.identifier) = c.in-ok-write_u32.ensures ∙ ap (λ n. o1 ++ be n) (c.identifier_word.ensures ∙ ap (λ k. identifier_word k.identifier) h) in
-    let e3 : o3 ≡ o2 ++ be (number_word r.number) = c.in-ok-write_u32-2.ensures ∙ ap (λ n. o2 ++ be n) (c.number_word.ensures ∙ ap (λ k. number_word k.number) h) in
-    let e4 : o4 ≡ o3 ++ (r.kind ∷ []) = c.in-ok-push-2.ensures.items ∙ ap (λ k. o3 ++ (k.kind ∷ [])) h in
-    let e5 : o5 ≡ o4 ++ (r.mode ∷ []) = c.in-ok-push-3.ensures.items ∙ ap (λ k. o4 ++ (k.mode ∷ [])) h in
-    let e6 : o6 ≡ o5 ++ ops = c.in-ok-write_items.ensures.items in
-    let e7 : o7 ≡ o6 ++ mks = c.in-ok-write_items-2.ensures.items in
+    let e1 : o1 ≡ o ++ (r.code ∷ []) = c.in_ok-push.ensures.items ∙ ap (λ k. o ++ (k.code ∷ [])) h in
+    let e2 : o2 ≡ o1 ++ be (identifier_word r.identifier) = c.in_ok-write_u32.ensures ∙ ap (λ n. o1 ++ be n) (c.identifier_word.ensures ∙ ap (λ k. identifier_word k.identifier) h) in
+    let e3 : o3 ≡ o2 ++ be (number_word r.number) = c.in_ok-write_u32-2.ensures ∙ ap (λ n. o2 ++ be n) (c.number_word.ensures ∙ ap (λ k. number_word k.number) h) in
+    let e4 : o4 ≡ o3 ++ (r.kind ∷ []) = c.in_ok-push-2.ensures.items ∙ ap (λ k. o3 ++ (k.kind ∷ [])) h in
+    let e5 : o5 ≡ o4 ++ (r.mode ∷ []) = c.in_ok-push-3.ensures.items ∙ ap (λ k. o4 ++ (k.mode ∷ [])) h in
+    let e6 : o6 ≡ o5 ++ ops = c.in_ok-write_items.ensures.items in
+    let e7 : o7 ≡ o6 ++ mks = c.in_ok-write_items-2.ensures.items in
     record {
       items =
           before o o1 o7 (r.code ∷ []) _ e1

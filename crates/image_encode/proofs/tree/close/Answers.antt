@@ -14,8 +14,8 @@ returns c =
         around = ap (map vec_items) c.in-Some.ensures.items ∙ map-append vec_items (vec_items c.pop.new.self) (p ∷ []);
         bytes =
             before (vec_items p) (vec_items c.write_u32.new.out) (vec_items c.extend_from_slice.new.self) (be (length (vec_items c.args.top))) (vec_items c.args.top)
-            (c.in-ok-write_u32.ensures ∙ ap (λ n. vec_items p ++ be n) size)
-            (c.in-ok-extend_from_slice.ensures.items ∙ ap (λ t. vec_items c.write_u32.new.out ++ t) c.as_slice.ensures.value);
+            (c.in_ok-write_u32.ensures ∙ ap (λ n. vec_items p ++ be n) size)
+            (c.in_ok-extend_from_slice.ensures.items ∙ ap (λ t. vec_items c.write_u32.new.out ++ t) c.as_slice.ensures.value);
       };
       fault = tt;
     }

@@ -11,6 +11,6 @@ loop-bytes-preserved c =
     let rest = take (length bs - 5) (drop 5 bs) in
     let le : 5 ≤ length bs = search rules in
     let x : Identifier = record { declaration = record { 0 = c.u32_of.result }; tag = get_or bs 4 0 } in
-    ap (λ t. map identifier_row t ++ identifiers_of (length rest / 5) rest) c.in-ok-push.ensures.items
+    ap (λ t. map identifier_row t ++ identifiers_of (length rest / 5) rest) c.in_ok-push.ensures.items
     ∙ ap (λ t. t ++ identifiers_of (length rest / 5) rest) (map_put identifier_row (vec_items c.loop-bytes.identifiers) x)
     ∙ put (map identifier_row (vec_items c.loop-bytes.identifiers)) (identifiers_of (length bs / 5) bs) _ _ (identifier_row x) c.loop-bytes.invariant (rows_next bs c.u32_of.result le c.u32_of.ensures)

@@ -15,7 +15,7 @@ returns c = record {
   added = record {
     list = see_numbers c.in-Ok.read.0;
     reads = c.in-Ok.ensures.is;
-    items = c.in-ok-add_numbers.ensures.items;
+    items = c.in_ok-add_numbers.ensures.items;
     start = c.len.ensures ∙ c.args.pool.now.ok.0;
     count = sym (words_length c.in-Ok.read.0.bytes.now);
   };

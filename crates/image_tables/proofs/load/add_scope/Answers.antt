@@ -6,8 +6,8 @@ use Rattle.image_tables.proofs.load.add_scope.Goals as goal
 
 pub add_list-requires-2 : goal.add_list-requires-2
 add_list-requires-2 c =
-    let a = c.in-ok-dependencies.ensures.added in
-    let q = see c.in-ok-dependencies.rest in
+    let a = c.in_ok-dependencies.ensures.added in
+    let q = see c.in_ok-dependencies.rest in
     let size = c.args.pool.now.ok.0 in
     let n = next_room _ _ _ _ _ a (omega arith) (omega (arith, c.requires.room)) in
     record {
@@ -18,10 +18,10 @@ add_list-requires-2 c =
 
 pub add_list-requires-3 : goal.add_list-requires-3
 add_list-requires-3 c =
-    let a = c.in-ok-dependencies.ensures.added in
-    let b = c.in-ok-declarations.ensures.added in
-    let p = see c.in-ok-dependencies.rest in
-    let q = see c.in-ok-declarations.rest in
+    let a = c.in_ok-dependencies.ensures.added in
+    let b = c.in_ok-declarations.ensures.added in
+    let p = see c.in_ok-dependencies.rest in
+    let q = see c.in_ok-declarations.rest in
     let size = c.args.pool.now.ok.0 in
     let n = next_room _ _ _ _ _ a (omega arith) (omega (arith, c.requires.room)) in
     let m = next_room _ _ _ _ _ b n.0 n.1 in

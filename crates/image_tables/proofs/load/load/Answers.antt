@@ -4,9 +4,9 @@ use Rattle.image.specs.Steps.{held, see_open, see_reader}
 use Rattle.image_tables.proofs.Loading.{Loading, open_never, reads, roomy, turn, end}
 use Rattle.image_tables.proofs.load.load.Goals as goal
 
-pub returns-in-err-open : goal.returns-in-err-open
-returns-in-err-open c =
-    absurd (open_never c.args.image.now (see_reader c.loop-reader.reader) c.loop-reader.tables c.loop-reader.invariant (false-eqb _ 0 c.loop-reader-test.ensures) _ c.in-err-open.ensures.is)
+pub returns-in_err-open : goal.returns-in_err-open
+returns-in_err-open c =
+    absurd (open_never c.args.image.now (see_reader c.loop-reader.reader) c.loop-reader.tables c.loop-reader.invariant (false-eqb _ 0 c.loop-reader-test.ensures) _ c.in_err-open.ensures.is)
 
 pub add_section-requires : goal.add_section-requires
 add_section-requires c =
@@ -14,11 +14,11 @@ add_section-requires c =
     let q = see_reader c.loop-reader.reader in
     let t = c.loop-reader.tables in
     let some = false-eqb _ 0 c.loop-reader-test.ensures in
-    let o = see_open c.in-ok-open.open in
+    let o = see_open c.in_ok-open.open in
     let h = held c.section-section.result in
     record {
-      reads = reads bs q t c.loop-reader.invariant some o h c.in-ok-open.ensures.is c.section-section.ensures;
-      room = let r = roomy bs q t c.loop-reader.invariant some o h c.in-ok-open.ensures.is c.section-section.ensures (omega arith) in omega (arith, r, c.loop-reader.tables.pool.ok.0);
+      reads = reads bs q t c.loop-reader.invariant some o h c.in_ok-open.ensures.is c.section-section.ensures;
+      room = let r = roomy bs q t c.loop-reader.invariant some o h c.in_ok-open.ensures.is c.section-section.ensures (omega arith) in omega (arith, r, c.loop-reader.tables.pool.ok.0);
     }
 
 pub loop-reader-preserved : goal.loop-reader-preserved
@@ -27,10 +27,10 @@ loop-reader-preserved c =
     let q = see_reader c.loop-reader.reader in
     let t = c.loop-reader.tables in
     let some = false-eqb _ 0 c.loop-reader-test.ensures in
-    let o = see_open c.in-ok-open.open in
+    let o = see_open c.in_ok-open.open in
     let h = held c.section-section.result in
     subst (λ (p : Place). Loading bs p c.add_section.new.tables) (sym c.skip-reader.ensures)
-    (turn bs q t c.loop-reader.invariant some o h c.in-ok-open.ensures.is c.section-section.ensures c.add_section.new.tables c.in-ok-add_section.ensures.added c.in-ok-open.ensures.inside.0.behind)
+    (turn bs q t c.loop-reader.invariant some o h c.in_ok-open.ensures.is c.section-section.ensures c.add_section.new.tables c.in_ok-add_section.ensures.added c.in_ok-open.ensures.inside.0.behind)
 
 pub returns : goal.returns
 returns c = (omega arith, end c.args.image.now (see_reader c.loop-reader.reader) c.loop-reader.tables c.loop-reader.invariant (true-eqb _ 0 c.loop-reader-test.ensures))

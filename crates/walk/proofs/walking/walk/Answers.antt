@@ -41,12 +41,12 @@ loop-row-preserved g c =
     )
 
 pub close-requires : goal.close-requires
-close-requires g c = record { within = omega arith; allowed = closes_all _ _ _ _ _ _ _ c.loop-row.invariant.2 c.in-default.ensures.value }
+close-requires g c = record { within = omega arith; allowed = closes_all _ _ _ _ _ _ _ c.loop-row.invariant.2 c.in_default.ensures.value }
 
 pub returns : goal.returns
 returns g c =
     let e = ap (λ (s : Reading). s.rows) c.rewind.ensures in
     record {
-      after = rw e at (walked_all _ _ _ _ _ _ _ c.loop-row.invariant.2 c.in-default.ensures.value _ c.close.ensures.after);
+      after = rw e at (walked_all _ _ _ _ _ _ _ c.loop-row.invariant.2 c.in_default.ensures.value _ c.close.ensures.after);
       source = c.rewind-2.ensures ∙ ap (λ (s : Reading). rewound s) c.next.ensures.after ∙ ap (λ rs. at_place rs 0) (c.loop-row.invariant.2.same ∙ e);
     }

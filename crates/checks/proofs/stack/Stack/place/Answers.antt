@@ -11,11 +11,11 @@ returns-then-code c = record {
   high = c.requires.high;
 }
 
-pub returns-in-default : goal.returns-in-default
-returns-in-default c =
+pub returns-in_default : goal.returns-in_default
+returns-in_default c =
     let room : c.args.depth < length c.args.self.now.rows = omega arith in
     record {
-      value = no_place c.args.self.now.height c.args.self.now.rows c.args.depth c.args.code c.requires.within c.if-depth-eq0.false room _ c.in-default.ensures;
+      value = no_place c.args.self.now.height c.args.self.now.rows c.args.depth c.args.code c.requires.within c.if-depth-eq0.false room _ c.in_default.ensures;
       high = c.requires.high;
     }
 

@@ -9,7 +9,7 @@ use Rattle.walk.proofs.Acting.{Doing, doing_none, doing_one, doing_more, doing_a
 use Rattle.collect.specs.Promotable.{sees, does, Ready}
 use Rattle.collect.proofs.Keeping.{splits}
 use Rattle.collect.proofs.promotable.CollectPromotable.collect_promotable_operands.Goals as goal
-use Rattle.collect.proofs.promotable.CollectPromotable.collect_promotable_operands.Goals.{in-Some, in-default}
+use Rattle.collect.proofs.promotable.CollectPromotable.collect_promotable_operands.Goals.{in-Some, in_default}
 
 pub loop-i-init : goal.loop-i-init
 loop-i-init g c = doing_none does Ready splits sees _ _ c.requires.ready
@@ -28,8 +28,8 @@ loop-i-preserved g c =
       | in-Some w ↦
           subst Inv (sym w.scratch-is)
           (doing_more does Ready splits sees _ _ _ _ w.in-Some.id c.loop-i.invariant (found_here (λ r. r.operands) s c.loop-i.i c.requires.given w.in-Some.id w.in-Some.ensures) _ w.collect_promotable_place.ensures)
-      | in-default w ↦
-          absurd (found_within (λ r. r.operands) s c.loop-i.i c.requires.given c.args.row.now.operands (ap (λ (r : RowHead). r.operands) c.requires.row) c.loop-i-test.true (sym w.in-default.ensures))
+      | in_default w ↦
+          absurd (found_within (λ r. r.operands) s c.loop-i.i c.requires.given c.args.row.now.operands (ap (λ (r : RowHead). r.operands) c.requires.row) c.loop-i-test.true (sym w.in_default.ensures))
     ]
 
 pub returns : goal.returns

@@ -6,12 +6,12 @@ use Rattle.image_source.proofs.source.ImageSourceTreeSource.next.Goals as goal
 pub read_head-requires : goal.read_head-requires
 read_head-requires c = readable c.close_ended.new.self
 
-pub returns-in-default : goal.returns-in-default
-returns-in-default c =
+pub returns-in_default : goal.returns-in_default
+returns-in_default c =
     let s = c.close_ended.new.self in
     let closed = c.close_ended.ensures.closed in
     let same = c.close_ended.ensures.same in
-    let is = c.in-default.ensures.is in
+    let is = c.in_default.ensures.is in
     record { value = over_value s closed _ is ∙ ap upcoming same; after = over_after s closed _ is ∙ ap advanced same }
 
 pub overflow-cast-at : goal.overflow-cast-at

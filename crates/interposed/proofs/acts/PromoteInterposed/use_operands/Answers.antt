@@ -8,7 +8,7 @@ use Rattle.walk.proofs.Acting.{Doing, doing_none, doing_one, doing_more, doing_a
 use Rattle.interposed.specs.Acts.{State, uses, does, Ready}
 use Rattle.interposed.proofs.Passes.{splits}
 use Rattle.interposed.proofs.acts.PromoteInterposed.use_operands.Goals as goal
-use Rattle.interposed.proofs.acts.PromoteInterposed.use_operands.Goals.{in-Some, in-default}
+use Rattle.interposed.proofs.acts.PromoteInterposed.use_operands.Goals.{in-Some, in_default}
 
 pub loop-i-init : goal.loop-i-init
 loop-i-init g c = doing_none does Ready splits uses _ _ c.requires.ready
@@ -26,8 +26,8 @@ loop-i-preserved g c =
       | in-Some w ↦
           subst Inv (λ i. whole c.args.self.now (tables (sym w.env-is i) (sym w.scratch-is i)))
           (doing_more does Ready splits uses _ _ _ _ w.in-Some.id c.loop-i.invariant (found_here (λ r. r.operands) s c.loop-i.i c.requires.given w.in-Some.id w.in-Some.ensures) _ w.use_place.ensures)
-      | in-default w ↦
-          absurd (found_within (λ r. r.operands) s c.loop-i.i c.requires.given c.args.row.now.operands (ap (λ (r : RowHead). r.operands) c.requires.row) c.loop-i-test.true (sym w.in-default.ensures))
+      | in_default w ↦
+          absurd (found_within (λ r. r.operands) s c.loop-i.i c.requires.given c.args.row.now.operands (ap (λ (r : RowHead). r.operands) c.requires.row) c.loop-i-test.true (sym w.in_default.ensures))
     ]
 
 pub returns : goal.returns
