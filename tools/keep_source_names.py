@@ -21,7 +21,7 @@ def main():
     for path in glob.glob("crates/*/src/**/*.rt", recursive=True):
         for line in read(path).split("\n"):
             if not line.startswith("ghost use"):
-                words |= set(re.findall(r"(?<![A-Za-z0-9_'])[a-z][a-z0-9]*(?:_[a-z0-9]+)+(?![A-Za-z0-9_])", line))
+                words |= set(re.findall(r"(?<![A-Za-z0-9_'])(?:[a-z][a-z0-9]*(?:_[a-z0-9]+)+|[A-Z][A-Z0-9]*(?:_[A-Z0-9]+)+)(?![A-Za-z0-9_])", line))
     # a name of a step that begins with one of these is a word of the kit's with a name behind it
     turns = {w.replace("_", "-"): w for w in words if w.split("_")[0] not in ("then", "else", "if", "loop", "in")}
     turns |= {w.replace("_", "-"): w for w in KITS}
@@ -29,7 +29,8 @@ def main():
     for path in sorted(glob.glob("crates/*/proofs/*/**/*.antt", recursive=True)):
         text = read(path)
         lines = [l if l.startswith("use Rattle.std") or l.lstrip().startswith("--") else pattern.sub(lambda m: turns[m[0]], l) for l in text.split("\n")]
-        new = "\n".join(lines)
+        # a parameter that no code uses begins with an underscore
+        new = "\n".join(lines).replace(".args.-", ".args._")
         if new != text:
             with open(path, "w", encoding="utf-8") as f:
                 f.write(new)

@@ -1,5 +1,5 @@
-use Rattle.std.proofs.Common.{arith}
-use Rattle.std.proofs.lemmas.Bool.{both_ways}
+use Rattle.std.proofs.Common.{sym, ◌∙◌, arith}
+use Rattle.std.proofs.lemmas.Bool.{both_ways, eqb-true, eq-eqb}
 use Rattle.collect.proofs.Following.{following_none, following_within, following_less, following_more, following_found, following_all}
 use Rattle.collect.proofs.links.is_along.Goals as goal
 
@@ -10,13 +10,13 @@ pub bounds-trail-at : goal.bounds-trail-at
 bounds-trail-at c = following_within _ _ _ _ c.loop-at.invariant c.requires c.loop-at-test.true
 
 pub returns-then-eq : goal.returns-then-eq
-returns-then-eq c = following_found _ _ _ _ c.loop-at.invariant c.loop-at-test.true (c.eq.ensures.0 c.if-eq.true)
+returns-then-eq c = following_found _ _ _ _ c.loop-at.invariant c.loop-at-test.true (eqb-true _ _ (sym c.eq.ensures ∙ c.if-eq.true))
 
 pub loop-at-smaller : goal.loop-at-smaller
 loop-at-smaller c = following_less _ _ _ _ c.loop-at.invariant c.requires c.loop-at-test.true
 
 pub loop-at-preserved : goal.loop-at-preserved
-loop-at-preserved c = following_more _ _ _ _ c.loop-at.invariant c.requires c.loop-at-test.true (λ e. both_ways c.eq.result c.if-eq.false (c.eq.ensures.1 e))
+loop-at-preserved c = following_more _ _ _ _ c.loop-at.invariant c.requires c.loop-at-test.true (λ e. both_ways c.eq.result c.if-eq.false (c.eq.ensures ∙ eq-eqb _ _ e))
 
 pub returns : goal.returns
 returns c = following_all _ _ _ _ c.loop-at.invariant (omega (arith, c.loop-at-test.false))

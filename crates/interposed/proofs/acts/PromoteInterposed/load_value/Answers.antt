@@ -13,4 +13,4 @@ returns-in-Some-mark g c =
     let s = g.S.TreeSource.reading c.args.source.now in
     c.load_mark.ensures
     ∙ ap (over does (whole c.args.self.now (tables c.args.env.now c.args.scratch.now)))
-    (sym (value_mark c.args.kind c.in-Some.l c.in-Some-mark.mark c.args.lvalue (last_row s).marks _ c.in-Some.is c.if-kind-eq-LOAD-GLOBAL.false (found_here (λ r. r.marks) s 0 c.requires.given c.in-Some-mark.mark c.in-Some-mark.ensures)))
+    (sym (value_mark c.args.kind c.in-Some.l c.in-Some-mark.mark c.args.lvalue (last_row s).marks _ c.in-Some.is c.if-kind-eq-LOAD_GLOBAL.false (found_here (λ r. r.marks) s 0 c.requires.given c.in-Some-mark.mark c.in-Some-mark.ensures)))
