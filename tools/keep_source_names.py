@@ -8,7 +8,8 @@ import glob
 import re
 
 # Words of the kit's own in names of steps.
-KITS = ["in_default", "in_ok", "in_err", "from_residual", "type_inv"]
+KITS = ["in_default", "in_ok", "in_err", "from_residual", "type_inv", "invariant_of", "slice_bounds", "offset_bounds"]
+KITS += [f"{kind}_{step}" for kind in ("overflow", "nonzero") for step in ("add", "sub", "mul", "shl", "shr", "cast", "step", "div", "rem")]
 
 
 def read(path):

@@ -22,8 +22,8 @@ promote_used_temporaries-requires g c =
     ap (λ (s : Reading). run_refusal (model c.args.env.now) (noted c.args.scratch.now) c.args.parameters s.rows) c.check_run.ensures.source
     ∙ answered_none _ _ c.in_ok-check_run.ensures.value
 
-pub overflow-sub-result : goal.overflow-sub-result
-overflow-sub-result g c =
+pub overflow_sub-result : goal.overflow_sub-result
+overflow_sub-result g c =
     let b = tables c.args.env.now c.args.scratch.now in
     let rs = (g.S.TreeSource.reading c.args.source.now).rows in
     run_more b _ c.args.parameters rs (answered_none _ _ c.in_ok-check_run.ensures.value)

@@ -14,13 +14,13 @@ returns-in_default c =
     let is = c.in_default.ensures.is in
     record { value = over_value s closed _ is ∙ ap upcoming same; after = over_after s closed _ is ∙ ap advanced same }
 
-pub overflow-cast-at : goal.overflow-cast-at
-overflow-cast-at c =
+pub overflow_cast-at : goal.overflow_cast-at
+overflow_cast-at c =
     let few : c.close_ended.new.self.at.depth ≤ 128 = low c.close_ended.new.self in
     search rules
 
-pub offset-bounds-self-at : goal.offset-bounds-self-at
-offset-bounds-self-at c =
+pub offset_bounds-self-at : goal.offset_bounds-self-at
+offset_bounds-self-at c =
     let few : c.close_ended.new.self.at.depth ≤ 128 = low c.close_ended.new.self in
     search rules
 
@@ -30,26 +30,26 @@ bounds-self-at c =
     let size : length s.behind ≡ 128 = omega arith in
     room s size c.in-Ok.fields c.in-Ok.children c.in-Ok.after c.in-Ok.ensures.is
 
-pub invariant-of-self : goal.invariant-of-self
-invariant-of-self c =
+pub invariant_of-self : goal.invariant_of-self
+invariant_of-self c =
     let s = c.close_ended.new.self in
     let size : length s.behind ≡ 128 = omega arith in
     (keeps_written s size c.in-Ok.fields c.in-Ok.children c.in-Ok.after c.in-Ok.ensures.is, tt)
 
-pub overflow-add-self : goal.overflow-add-self
-overflow-add-self c =
+pub overflow_add-self : goal.overflow_add-self
+overflow_add-self c =
     let few : c.close_ended.new.self.at.depth ≤ 128 = low c.close_ended.new.self in
     search rules
 
-pub overflow-add-self-2 : goal.overflow-add-self-2
-overflow-add-self-2 c =
+pub overflow_add-self-2 : goal.overflow_add-self-2
+overflow_add-self-2 c =
     let s = c.close_ended.new.self in
     let size : length s.behind ≡ 128 = omega arith in
     let few : s.at.given + 1 < 2 ^ 64 = fits s size c.in-Ok.fields c.in-Ok.children c.in-Ok.after c.in-Ok.ensures.is in
     search rules
 
-pub invariant-of-self-2 : goal.invariant-of-self-2
-invariant-of-self-2 c =
+pub invariant_of-self-2 : goal.invariant_of-self-2
+invariant_of-self-2 c =
     let s = c.close_ended.new.self in
     let size : length s.behind ≡ 128 = omega arith in
     (keeps_opened s size c.in-Ok.fields c.in-Ok.children c.in-Ok.after c.in-Ok.ensures.is, tt)

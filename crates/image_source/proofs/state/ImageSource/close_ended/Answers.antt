@@ -21,5 +21,5 @@ loop-rest-preserved c =
           (∥∥₁_map c.loop-rest.invariant.1 (λ st. closes (see s.rows) (closed_to (see_standing s.at) c.loop-rest.rest.now d) (map (λ x. x.now) s.behind) st (true-eqb _ 0 c.loop-rest-test.ensures) (λ e. omega arith))),
     )
 
-pub invariant-of-self : goal.invariant-of-self
-invariant-of-self c = (c.loop-rest.invariant.1, tt)
+pub invariant_of-self : goal.invariant_of-self
+invariant_of-self c = (c.loop-rest.invariant.1, tt)

@@ -3,7 +3,7 @@ use Rattle.image_source.specs.Standings.{see_standing}
 use Rattle.image_source.proofs.Moves.{starts}
 use Rattle.image_source.proofs.state.ImageSource.new.Goals as goal
 
-pub invariant-of-result : goal.invariant-of-result
-invariant-of-result c =
+pub invariant_of-result : goal.invariant_of-result
+invariant_of-result c =
     let rows = c.checked_rows-rows in
     (∣ starts (see rows.result) (see_standing c.start.result) _ c.start.ensures rows.ensures.inside rows.ensures.fills ∣₁, tt)
