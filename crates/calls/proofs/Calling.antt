@@ -1,11 +1,11 @@
 -- One call in a list, from the contracts of the four, and one call more. Assumes nothing.
-use Rattle.std.proofs.Common.{◌≡◌, ℕ, zero, suc, ◌+◌, ◌<◌, ◌≤◌, List, [], ◌∷◌, ◌++◌, map, length, get_or, take, drop, set, Result, sym, refl, ap, ◌∙◌, subst, arith, length-set, length-take}
+use Rattle.std.proofs.Common.{◌≡◌, ℕ, zero, suc, ◌+◌, ◌<◌, ◌≤◌, List, [], ◌∷◌, ◌++◌, map, length, get_or, take, drop, set, Result, sym, refl, ap, ◌∙◌, subst, arith}
 use Rattle.std.proofs.lemmas.List.{length-map, map-set, take_more, take_more_set, drop-set-lt, drop-drop, length-take-le}
 use Rattle.hir.specs.declared.refusal.Refusal.{Refusal}
 use Rattle.hir.specs.declared.span.Span.{Span}
 use Rattle.hir.specs.Environments.{Model}
 use Rattle.hir.specs.Scratches.{Notes}
-use Rattle.reactive.specs.Rows.{Row, Reading, rewound, at_place}
+use Rattle.reactive.specs.Rows.{Reading, rewound, at_place}
 use Rattle.calls.specs.declared.requests.Request.{Request}
 use Rattle.calls.specs.declared.requests.Answer.{Answer}
 use Rattle.calls.specs.declared.requests.Answer.TheVariants.{NoTree}

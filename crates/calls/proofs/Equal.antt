@@ -1,5 +1,5 @@
 -- What settles the answer of a run. Assumes nothing.
-use Rattle.std.proofs.Common.{◌≡◌, ℕ, ◌||◌, ltb, List, length, None, Result, sym, refl, ap, ◌∙◌, ⊎_elim}
+use Rattle.std.proofs.Common.{◌≡◌, ℕ, ◌||◌, ltb, List, length, None, Result, sym, ◌∙◌, ⊎_elim}
 use Rattle.hir.specs.declared.refusal.Refusal.{Refusal}
 use Rattle.hir.specs.declared.refusal.Refusal.TheVariants as refusals
 use Rattle.hir.specs.declared.span.Span.{Span}

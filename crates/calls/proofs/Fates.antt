@@ -1,14 +1,14 @@
 -- What one call does to an identifier and to the journal. Assumes nothing.
-use Rattle.std.proofs.Common.{◌≡◌, ℕ, ◌+◌, ◌<◌, ◌≤◌, Bool, true, false, cond, ◌||◌, eqb, ltb, leb, ◌⊎◌, List, [], ◌∷◌, ◌++◌, length, get_or, take, drop, set, Some, None, Ok, Err, Option, Result, sym, refl, ap, ◌∙◌, subst, inl, inr, ⊎_elim, append-nil, arith, length-take, get_or-set_other, get_or-set_same}
+use Rattle.std.proofs.Common.{◌≡◌, ℕ, ◌<◌, ◌≤◌, Bool, true, false, cond, eqb, ◌⊎◌, List, [], ◌∷◌, ◌++◌, length, drop, Some, None, Err, Option, sym, refl, ap, ◌∙◌, inl, inr, ⊎_elim, append-nil, arith, length-take, get_or-set_other, get_or-set_same}
 use Rattle.std.proofs.lemmas.List.{drop_all, drop_at}
-use Rattle.std.proofs.lemmas.Bool.{cases_Bool, cases_eq, eqb-true, eqb-false, leb-false}
+use Rattle.std.proofs.lemmas.Bool.{cases_Bool, cases_eq, eqb-true, leb-false}
 use Rattle.hir.specs.declared.ids.IdentifierId.{IdentifierId}
 use Rattle.hir.specs.declared.refusal.Refusal.{Refusal}
 use Rattle.hir.specs.declared.refusal.Refusal.TheVariants as refusals
 use Rattle.hir.specs.declared.span.Span.{Span}
 use Rattle.hir.specs.declared.tables.Identifier.{Identifier}
 use Rattle.hir.specs.declared.tables.JournalRow.{JournalRow}
-use Rattle.hir.specs.Environments.{Model, no_identifier, row_of, tag_of, journal_of, tagged}
+use Rattle.hir.specs.Environments.{Model, no_identifier, tag_of, journal_of, tagged}
 use Rattle.hir.specs.Lists.{Each}
 use Rattle.hir.specs.Refusals.{answered, unless}
 use Rattle.hir.specs.Sound.{Known}
@@ -17,11 +17,10 @@ use Rattle.checks.specs.Rows.{run_refusal}
 use Rattle.checks.specs.Tables.{many_identifiers}
 use Rattle.calls.specs.declared.requests.Request.{Request}
 use Rattle.calls.specs.declared.requests.Request.TheVariants.{Run, Give, Look, Spell}
-use Rattle.calls.specs.declared.requests.Answer.{Answer}
-use Rattle.calls.specs.declared.requests.Answer.TheVariants.{Ran, Given, Tag, Length, Refused, NoTree}
+use Rattle.calls.specs.declared.requests.Answer.TheVariants.{Ran, Given, Refused, NoTree}
 use Rattle.reasons.specs.Coverings as reasons
 use Rattle.reasons.specs.Journals.{names}
-use Rattle.calls.specs.Steps.{Text, absent, give_refusal, GiveStep, Names, RunAccepted}
+use Rattle.calls.specs.Steps.{Text, absent, give_refusal, Names, RunAccepted}
 use Rattle.calls.specs.Histories.{World, Moment, tree_at, ran_as, given_as, RunFollows, GiveFollows, TreeFollows, there, nowhere, Follows}
 use Rattle.calls.specs.Promise.{Gives, added, Journals}
 use Rattle.calls.proofs.Naming.{member}

@@ -1,8 +1,8 @@
 -- The four passes over tables and rows that are not refused. Assumes nothing.
-use Rattle.std.proofs.Common.{◌≡◌, ℕ, ◌+◌, ◌-◌, ◌^◌, ◌<◌, ◌≤◌, cond, eqb, List, [], ◌∷◌, length, drop, replicate, Some, None, Ok, Err, Option, sym, refl, ap, ◌∙◌, subst, ⊎_elim, arith}
+use Rattle.std.proofs.Common.{◌≡◌, ℕ, ◌+◌, ◌-◌, ◌<◌, ◌≤◌, cond, eqb, List, [], ◌∷◌, length, drop, Some, None, Ok, Err, Option, sym, refl, ap, ◌∙◌, subst, arith}
 use lib.ListN.{length-replicate}
 use Rattle.std.proofs.lemmas.List.{drop_at}
-use Rattle.std.proofs.lemmas.Bool.{cases_lt, cond_both}
+use Rattle.std.proofs.lemmas.Bool.{cond_both}
 use Rattle.hir.specs.declared.ids.FunctionId.{FunctionId}
 use Rattle.hir.specs.declared.ids.IdentifierId.{IdentifierId}
 use Rattle.hir.specs.declared.ids.ScopeId.{ScopeId}
@@ -14,23 +14,23 @@ use Rattle.hir.specs.declared.tables.JournalRow.{JournalRow}
 use Rattle.hir.specs.Environments.{Model, journal_of}
 use Rattle.hir.specs.Lists.{Each, over}
 use Rattle.hir.specs.Refusals.{answered}
-use Rattle.hir.specs.Scratches.{Notes, Tables, both, blank, no_work, work_of}
+use Rattle.hir.specs.Scratches.{Notes, Tables}
 use Rattle.hir.specs.Sound.{Sound, Known, KnownIn}
 use Rattle.hir.specs.Spans.{identifiers_in}
 use Rattle.reactive.specs.declared.row.Number.{Number}
 use Rattle.reactive.specs.declared.row.Number.TheVariants as numbers
 use Rattle.reactive.specs.Numbers.{scope_in, function_in}
 use Rattle.reactive.specs.Rows.{Row}
-use Rattle.reactive.specs.Sound.{HeadSound, RowSound}
+use Rattle.reactive.specs.Sound.{RowSound}
 use Rattle.walk.specs.Events.{Shallow}
 use Rattle.walk.proofs.Fitting.{each_imp}
 use Rattle.checks.specs.Rows.{sizes, run_refusal, scope_rows}
-use Rattle.checks.specs.Sound.{SoundTables, SoundRow}
+use Rattle.checks.specs.Sound.{SoundRow}
 use Rattle.checks.proofs.Sound as checked
 use Rattle.promote.specs.Growth.{Grows, none}
 use Rattle.promote.specs.Identifier.{promote_unnamed}
 use Rattle.promote.specs.Temporaries as temporaries
-use Rattle.promote.proofs.Growing.{Kept, kept, grows_none, grows_trans, grows_each, grows_unnamed, sound_grows, known_in_kept}
+use Rattle.promote.proofs.Growing.{Kept, kept, grows_trans, grows_each, grows_unnamed, sound_grows, known_in_kept}
 use Rattle.promote.proofs.Visiting as visiting
 use Rattle.collect.specs.Promotable as collects
 use Rattle.collect.proofs.Beginning as beginning

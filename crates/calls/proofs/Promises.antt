@@ -1,22 +1,21 @@
 -- The promise, from what each call does. Assumes nothing.
-use Rattle.std.proofs.Common.{◌≡◌, ℕ, Bool, true, false, not, eqb, ◌⊎◌, List, [], ◌∷◌, ◌++◌, Some, None, Ok, Err, Option, Result, sym, refl, ap, ◌∙◌, subst, inl, inr, ⊎_elim, append_assoc, append-nil, arith}
-use Rattle.std.proofs.lemmas.Bool.{eq-eqb, ne_eqb, eqb-false}
+use Rattle.std.proofs.Common.{◌≡◌, ℕ, Bool, true, false, not, ◌⊎◌, List, [], ◌∷◌, ◌++◌, Some, None, Option, sym, refl, ap, ◌∙◌, subst, inl, inr, ⊎_elim, append_assoc, append-nil, arith}
+use Rattle.std.proofs.lemmas.Bool.{eq-eqb, ne_eqb}
 use Rattle.hir.specs.declared.refusal.Refusal.{Refusal}
 use Rattle.hir.specs.declared.span.Span.{Span}
-use Rattle.hir.specs.Environments.{Model, tag_of, journal_of}
+use Rattle.hir.specs.Environments.{tag_of, journal_of}
 use Rattle.hir.specs.Refusals.{answered}
 use Rattle.hir.specs.Spans.{ident}
 use Rattle.calls.specs.declared.requests.Request.{Request}
 use Rattle.calls.specs.declared.requests.Request.TheVariants.{Run, Give, Look, Spell}
-use Rattle.calls.specs.declared.requests.Answer.{Answer}
-use Rattle.calls.specs.declared.requests.Answer.TheVariants.{Ran, Tag, Refused, NoTree}
+use Rattle.calls.specs.declared.requests.Answer.TheVariants.{Ran, Tag, NoTree}
 use Rattle.calls.specs.Steps.{Text, look_refusal}
-use Rattle.calls.specs.Histories.{World, Moment, tree_at, looked_as, LookFollows, TreeFollows, there, nowhere, Follows, History, start, next, Somewhere}
+use Rattle.calls.specs.Histories.{World, Moment, tree_at, looked_as, TreeFollows, there, nowhere, Follows, History, start, next, Somewhere}
 use Rattle.calls.specs.Promise.{is_named, Gives, added, Journals, JournalsAs, TagFollows, by_gift, by_run, by_start, Alike, all_added, Promise}
 use Rattle.naming.specs.Texts.{Lawful}
 use Rattle.reasons.specs.Coverings as reasons
-use Rattle.calls.proofs.Fates.{Fate, stays, given, named, Done, done_call, run_covered}
-use Rattle.calls.proofs.Spellings.{declares_on, Lettered, call_letter, alike_by}
+use Rattle.calls.proofs.Fates.{Fate, stays, given, named, done_call, run_covered}
+use Rattle.calls.proofs.Spellings.{declares_on, call_letter, alike_by}
 
 -- what a list of calls does to an identifier
 data Tale (i : ℕ) (w : World) (ms : List Moment) (u : World) : Type 0 where

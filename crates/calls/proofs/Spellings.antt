@@ -1,13 +1,12 @@
 -- How the names of one run are spelled. Assumes nothing.
-use Rattle.std.proofs.Common.{◌≡◌, ℕ, zero, suc, ◌<◌, ◌≤◌, Bool, true, false, cond, ◌||◌, eqb, ◌⊎◌, List, [], ◌∷◌, ◌++◌, length, get_or, set, Some, None, Option, sym, refl, ap, ◌∙◌, subst, inl, inr, ⊎_elim, arith, length-set, get_or-set_other, get_or-set_same}
-use Rattle.std.proofs.lemmas.Bool.{cases_Bool, cases_eq, or_parts, or_cases, eqb-true, eqb-false}
+use Rattle.std.proofs.Common.{◌≡◌, ℕ, zero, suc, ◌<◌, Bool, true, false, cond, eqb, List, [], ◌∷◌, length, get_or, set, sym, refl, ap, ◌∙◌, subst, ⊎_elim, arith, length-set, get_or-set_other, get_or-set_same}
+use Rattle.std.proofs.lemmas.Bool.{cases_Bool, or_parts, or_cases, eqb-true, eqb-false}
 use Rattle.hir.specs.declared.ids.DeclarationId.{DeclarationId}
 use Rattle.hir.specs.declared.ids.IdentifierId.{IdentifierId}
-use Rattle.hir.specs.declared.refusal.Refusal.{Refusal}
 use Rattle.hir.specs.declared.span.Span.{Span}
 use Rattle.hir.specs.declared.tables.Identifier.{Identifier}
 use Rattle.hir.specs.declared.tables.JournalRow.{JournalRow}
-use Rattle.hir.specs.Environments.{Model, no_identifier, row_of, tag_of, declaration_of, tagged, with_tag}
+use Rattle.hir.specs.Environments.{Model, no_identifier, tag_of, declaration_of, tagged, with_tag}
 use Rattle.hir.specs.Lists.{Each}
 use Rattle.hir.specs.Refusals.{unless}
 use Rattle.hir.specs.Sound.{Known}
@@ -21,9 +20,9 @@ use Rattle.calls.specs.declared.requests.Request.{Request}
 use Rattle.calls.specs.declared.requests.Request.TheVariants.{Run, Give, Look, Spell}
 use Rattle.calls.specs.declared.requests.Answer.{Answer}
 use Rattle.calls.specs.declared.requests.Answer.TheVariants.{Ran, Refused, NoTree}
-use Rattle.calls.specs.Steps.{Text, letter_of, promoted_name, give_refusal, Names, RunAccepted}
+use Rattle.calls.specs.Steps.{Text, letter_of, give_refusal}
 use Rattle.calls.specs.Histories.{World, Moment, tree_at, ran_as, RunFollows, GiveFollows, TreeFollows, there, nowhere, Follows, History, start, next}
-use Rattle.calls.specs.Promise.{Journals, added, Alike}
+use Rattle.calls.specs.Promise.{Journals, Alike}
 use Rattle.calls.proofs.Naming.{member}
 use Rattle.calls.proofs.Fates.{cases_option, added_rows}
 

@@ -1,10 +1,9 @@
 -- Lists of calls, moment by moment. Assumes nothing.
-use Rattle.std.specs.Prelude.{◌≡◌, ℕ, ◌<◌, ◌≤◌, Bool, true, ◌⊎◌, List, [], ◌∷◌, ◌++◌, length, Ok, Err, Result, slice_index_or, slice_set}
+use Rattle.std.specs.Prelude.{◌≡◌, ℕ, ◌<◌, ◌≤◌, ◌⊎◌, List, [], ◌∷◌, length, Ok, Err, Result, slice_index_or, slice_set}
 use Rattle.hir.specs.declared.ids.IdentifierId.{IdentifierId}
 use Rattle.hir.specs.declared.refusal.Refusal.{Refusal}
 use Rattle.hir.specs.declared.span.Span.{Span}
-use Rattle.hir.specs.declared.tables.JournalRow.{JournalRow}
-use Rattle.hir.specs.Environments.{Model, journal_of}
+use Rattle.hir.specs.Environments.{Model}
 use Rattle.hir.specs.Scratches.{Notes}
 use Rattle.reactive.specs.Rows.{Reading, at_place, rewound}
 use Rattle.calls.specs.declared.requests.Request.{Request}

@@ -1,5 +1,5 @@
 -- Tests and folds over lists. Assumes nothing.
-use Rattle.std.specs.Prelude.{Bool, true, false, ◌||◌, List, [], ◌∷◌}
+use Rattle.std.specs.Prelude.{Bool, false, ◌||◌, List, [], ◌∷◌}
 
 -- some element passes a test
 abbrev pub some : {A : Type 0} → (A → Bool) → List A → Bool

@@ -1,15 +1,13 @@
 -- What the last pass keeps. Assumes nothing.
-use Rattle.std.proofs.Common.{◌≡◌, ℕ, ◌<◌, true, eqb, List, [], ◌∷◌, ◌++◌, map, length, Some, Option, sym, refl, ap, ◌∙◌, subst, arith}
+use Rattle.std.proofs.Common.{◌≡◌, ℕ, ◌<◌, true, eqb, List, [], ◌∷◌, ◌++◌, map, length, Some, Option, sym, ap, ◌∙◌, subst, arith}
 use Rattle.std.proofs.lemmas.Bool.{and_parts, cond-true}
 use Rattle.hir.specs.declared.ids.FunctionId.{FunctionId}
 use Rattle.hir.specs.declared.ids.IdentifierId.{IdentifierId}
-use Rattle.hir.specs.declared.span.Span.{Span}
 use Rattle.hir.specs.declared.tables.Reason.TheVariants as reasons
-use Rattle.hir.specs.Environments.{Model, scope_of}
+use Rattle.hir.specs.Environments.{Model}
 use Rattle.hir.specs.Lists.{Each, over}
 use Rattle.hir.specs.Scratches.{Tables}
 use Rattle.hir.specs.Sound.{Sound, Known, KnownFunction}
-use Rattle.hir.specs.Spans.{identifiers_in}
 use Rattle.reactive.specs.declared.row.RowHead.{RowHead}
 use Rattle.reactive.specs.Codes.{listed}
 use Rattle.reactive.specs.Numbers.{scope_in, function_in}
@@ -20,7 +18,7 @@ use Rattle.walk.proofs.Acting.{Splits, ready_onward, over_onward}
 use Rattle.walk.proofs.Fitting.{Within, each_acts, each_append, each_cond, each_map, each_listed}
 use Rattle.promote.specs.Growth.{Grows}
 use Rattle.promote.specs.Identifier.{is_unnamed}
-use Rattle.promote.proofs.Growing.{Kept, kept, grows_none, grows_trans, grows_if, grows_each, sound_grows}
+use Rattle.promote.proofs.Growing.{Kept, kept, grows_trans, grows_if, grows_each, sound_grows}
 use Rattle.promote.proofs.Passing as passing
 use Rattle.instances.specs.Instances.{Act, again, parameters, leaves, promote_instance, does, row_acts, acts, pass_acts, Fits, Ready}
 

@@ -1,5 +1,5 @@
 -- The last pass on the tables: its acts and what each does. Assumes nothing.
-use Rattle.std.specs.Prelude.{ℕ, ◌<◌, cond, ◌&&◌, List, [], ◌∷◌, ◌++◌, map, length, Option, ◌==◌}
+use Rattle.std.specs.Prelude.{ℕ, ◌<◌, cond, ◌&&◌, List, [], ◌++◌, map, length, Option, ◌==◌}
 use Rattle.hir.specs.declared.ids.FunctionId.{FunctionId}
 use Rattle.hir.specs.declared.ids.IdentifierId.{IdentifierId}
 use Rattle.hir.specs.declared.ids.ScopeId.{ScopeId}

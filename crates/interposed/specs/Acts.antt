@@ -5,7 +5,7 @@ use Rattle.hir.specs.declared.scratch.Work.{Work}
 use Rattle.hir.specs.declared.tables.Reason.TheVariants as reasons
 use Rattle.hir.specs.Environments.{Model}
 use Rattle.hir.specs.Lists.{Each}
-use Rattle.hir.specs.Scratches.{Tables, both, work_of}
+use Rattle.hir.specs.Scratches.{both, work_of}
 use Rattle.hir.specs.Sound.{Sound, Known}
 use Rattle.walk.specs.Events.{Whole, whole}
 use Rattle.promote.specs.Identifier.{is_unnamed, promote_if, with_work}

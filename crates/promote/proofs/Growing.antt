@@ -1,5 +1,5 @@
 -- What naming keeps. Assumes nothing.
-use Rattle.std.proofs.Common.{◌≡◌, ℕ, zero, suc, ◌+◌, ◌<◌, ◌≤◌, Bool, true, false, cond, eqb, ◌⊎◌, List, [], ◌∷◌, ◌++◌, length, get_or, set, sym, refl, ap, ◌∙◌, subst, inl, inr, ⊎_elim, append_assoc, arith, length-set}
+use Rattle.std.proofs.Common.{◌≡◌, ℕ, zero, suc, ◌+◌, ◌<◌, ◌≤◌, Bool, true, false, cond, eqb, ◌⊎◌, List, [], ◌∷◌, ◌++◌, length, get_or, set, sym, refl, ap, ◌∙◌, subst, inl, inr, ⊎_elim, arith, length-set}
 use Rattle.std.proofs.lemmas.Bool.{eq-eqb, ne_eqb, eqb-true, cond-true, cond-false, cond_both}
 use Rattle.hir.specs.declared.ids.IdentifierId.{IdentifierId}
 use Rattle.hir.specs.declared.ids.FunctionId.{FunctionId}
@@ -9,9 +9,9 @@ use Rattle.hir.specs.declared.tables.Scope.{Scope}
 use Rattle.hir.specs.declared.tables.Function.{Function}
 use Rattle.hir.specs.declared.tables.JournalRow.{JournalRow}
 use Rattle.hir.specs.declared.tables.Reason.{Reason}
-use Rattle.hir.specs.Environments.{Model, no_identifier, no_scope, no_function, with_tag, row_of, tag_of, declaration_of, scope_of, function_of, tagged, journaled, unnamed}
+use Rattle.hir.specs.Environments.{Model, no_identifier, no_scope, no_function, with_tag, tag_of, declaration_of, scope_of, function_of, unnamed}
 use Rattle.hir.specs.Lists.{Each, over}
-use Rattle.hir.specs.Scratches.{Notes, Tables, both, work_of}
+use Rattle.hir.specs.Scratches.{Tables, work_of}
 use Rattle.hir.specs.Sound.{Sound, ScopeSound, FunctionSound, Known, KnownIn, KnownFunction}
 use Rattle.hir.specs.Spans.{identifiers_in, functions_in}
 use Rattle.promote.specs.Identifier.{promoted, promote_if, promote_unnamed, is_unnamed, letter_tag, row}

@@ -1,5 +1,5 @@
 -- A pass whose acts only name identifiers. Assumes nothing.
-use Rattle.std.proofs.Common.{List, [], ◌∷◌, ◌++◌}
+use Rattle.std.proofs.Common.{List, [], ◌∷◌}
 use Rattle.hir.specs.Environments.{Model}
 use Rattle.hir.specs.Lists.{Each, over}
 use Rattle.hir.specs.Scratches.{Tables}

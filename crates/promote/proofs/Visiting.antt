@@ -1,17 +1,16 @@
 -- What the second pass keeps, and that its visits end. Assumes nothing.
-use Rattle.std.proofs.Common.{◌≡◌, ℕ, zero, suc, ◌+◌, ◌<◌, ◌≤◌, Bool, true, false, cond, ◌&&◌, eqb, List, [], ◌∷◌, ◌++◌, map, length, get_or, take, drop, set, Some, None, Option, sym, refl, ap, ◌∙◌, subst, add-one, arith, length-set, length-take}
+use Rattle.std.proofs.Common.{◌≡◌, ℕ, zero, suc, ◌+◌, ◌<◌, ◌≤◌, Bool, true, false, eqb, List, [], ◌∷◌, map, length, get_or, take, drop, set, Some, None, Option, sym, refl, ap, ◌∙◌, subst, arith, length-set, length-take}
 use Rattle.std.proofs.lemmas.List.{drop_all, drop_more, get_or-take, length-take-le}
 use Rattle.std.proofs.lemmas.Bool.{and_parts, cond_both, cond-true, cond-false}
 use Rattle.hir.specs.declared.ids.FunctionId.{FunctionId}
 use Rattle.hir.specs.declared.ids.IdentifierId.{IdentifierId}
 use Rattle.hir.specs.declared.ids.ScopeId.{ScopeId}
-use Rattle.hir.specs.declared.span.Span.{Span}
 use Rattle.hir.specs.declared.tables.Reason.{Reason}
 use Rattle.hir.specs.declared.tables.Reason.TheVariants as reasons
-use Rattle.hir.specs.Environments.{Model, declaration_of, scope_of, function_of}
+use Rattle.hir.specs.Environments.{Model, scope_of, function_of}
 use Rattle.hir.specs.Lists.{Each, over}
-use Rattle.hir.specs.Scratches.{Notes, Tables, both, work_of}
-use Rattle.hir.specs.Sound.{Sound, Known, KnownIn, KnownFunction}
+use Rattle.hir.specs.Scratches.{Tables}
+use Rattle.hir.specs.Sound.{Sound, Known, KnownFunction}
 use Rattle.hir.specs.Spans.{identifiers_in, functions_in, function, part}
 use Rattle.reactive.specs.declared.row.Number.{Number}
 use Rattle.reactive.specs.declared.row.Number.TheVariants as numbers
@@ -24,7 +23,7 @@ use Rattle.promote.specs.Growth.{Grows, none}
 use Rattle.promote.specs.Identifier.{promoted, promote_unnamed, is_unnamed}
 use Rattle.promote.specs.Temporaries.{Act, scope, pruned, inner, promote_escaped, is_marked, with_mark, entered, nested_in, visit, unmarked, unvisited, does, row_acts, acts, pass_acts, Fits, Ready}
 use Rattle.promote.proofs.Passing as passing
-use Rattle.promote.proofs.Growing.{Kept, kept, grows_none, grows_trans, grows_if, grows_unnamed, grows_each, sound_grows, known_in_kept}
+use Rattle.promote.proofs.Growing.{Kept, kept, grows_none, grows_trans, grows_if, grows_unnamed, grows_each, sound_grows}
 
 pub grows_escaped : (t : Tables) (i : IdentifierId) → Sound t → Known t.env i → Grows t (promote_escaped t i)
 grows_escaped t i s h = grows_if _ reasons.Escape t i (λ e. (and_parts (is_unnamed t.env i) _ e).0) s h

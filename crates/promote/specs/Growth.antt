@@ -1,6 +1,5 @@
 -- Tables in which identifiers without a name were named, one after another. Assumes nothing.
 use Rattle.std.specs.Prelude.{◌≡◌, ℕ, ◌<◌, ◌⊎◌, List, [], ◌∷◌, ◌++◌, length}
-use Rattle.hir.specs.declared.ids.IdentifierId.{IdentifierId}
 use Rattle.hir.specs.declared.tables.JournalRow.{JournalRow}
 use Rattle.hir.specs.Environments.{Model, tag_of, tagged, journaled}
 use Rattle.hir.specs.Scratches.{Tables}

@@ -1,5 +1,5 @@
 -- What naming an identifier does to the tables. Assumes nothing.
-use Rattle.std.specs.Prelude.{ℕ, Bool, true, cond, set, ◌==◌, slice_set}
+use Rattle.std.specs.Prelude.{ℕ, Bool, true, cond, ◌==◌, slice_set}
 use Rattle.hir.specs.declared.ids.IdentifierId.{IdentifierId}
 use Rattle.hir.specs.declared.scratch.Work.{Work}
 use Rattle.hir.specs.declared.tables.JournalRow.{JournalRow}

@@ -7,7 +7,7 @@ use Rattle.hir.specs.declared.span.Span.{Span}
 use Rattle.hir.specs.declared.tables.Reason.TheVariants as reasons
 use Rattle.hir.specs.Environments.{Model, declaration_of, scope_of, function_of}
 use Rattle.hir.specs.Lists.{over}
-use Rattle.hir.specs.Scratches.{Notes, Tables, both, work_of}
+use Rattle.hir.specs.Scratches.{Tables, both, work_of}
 use Rattle.hir.specs.Sound.{KnownFunction}
 use Rattle.hir.specs.Spans.{identifiers_in, functions_in}
 use Rattle.reactive.specs.declared.code.Code.TheVariants as codes

@@ -6,10 +6,10 @@ use Rattle.std.proofs.lemmas.Option.{slice_get-get_or, slice_get_past}
 use Rattle.std.proofs.lemmas.List.{length-map}
 use Rattle.std.proofs.lemmas.Bool.{cond-true, cond-false, lt-ltb, le-ltb}
 use Rattle.hir.specs.declared.ids.IdentifierId.{IdentifierId}
-use Rattle.hir.specs.Spans.{ident, part, identifiers_in}
+use Rattle.hir.specs.Spans.{ident}
 use Rattle.reactive.specs.declared.row.RowHead.{RowHead}
 use Rattle.reactive.specs.declared.table.RowEntry.{RowEntry}
-use Rattle.reactive.specs.Rows.{Row, Reading, at_place, head, upcoming, advanced, before, pick}
+use Rattle.reactive.specs.Rows.{Row, at_place, head, upcoming, advanced, before, pick}
 use Rattle.reactive.specs.Tables.{table_row, table_head, table_reading}
 
 pub nth_map : {A B : Type 0} (f : A → B) (xs : List A) (i : ℕ) → slice_get (map f xs) i ≡ option_map f (slice_get xs i)

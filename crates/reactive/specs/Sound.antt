@@ -1,5 +1,5 @@
 -- Rows whose numbers all have a row in the tables. Assumes nothing.
-use Rattle.std.specs.Prelude.{◌≡◌, ℕ, ◌<◌, length, Some, Option}
+use Rattle.std.specs.Prelude.{◌≡◌, ◌<◌, length, Some}
 use Rattle.hir.specs.declared.ids.FunctionId.{FunctionId}
 use Rattle.hir.specs.declared.ids.IdentifierId.{IdentifierId}
 use Rattle.hir.specs.declared.ids.ScopeId.{ScopeId}

@@ -1,10 +1,9 @@
 -- First coverings, one after another. Assumes nothing.
-use Rattle.std.proofs.Common.{◌≡◌, ℕ, Bool, true, false, cond, not, ◌||◌, eqb, List, [], ◌∷◌, ◌++◌, sym, refl, ap, ◌∙◌, subst, ⊎_elim, append_assoc, append-nil}
+use Rattle.std.proofs.Common.{◌≡◌, ℕ, Bool, true, cond, ◌||◌, eqb, List, [], ◌∷◌, ◌++◌, sym, refl, ap, ◌∙◌, ⊎_elim, append_assoc, append-nil}
 use Rattle.std.proofs.lemmas.Bool.{cases_Bool, cond-true, cond-false, eqb-true}
 use Rattle.hir.specs.declared.tables.JournalRow.{JournalRow}
 use Rattle.hir.specs.Environments.{Model}
 use Rattle.hir.specs.Lists.{some, over}
-use Rattle.walk.proofs.Rows.{over_append}
 use Rattle.reasons.specs.Journals.{names, is_named, firsts, declares}
 use Rattle.reasons.proofs.Bools.{or_false, or_assoc, or_swap}
 

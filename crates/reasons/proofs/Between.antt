@@ -1,5 +1,5 @@
 -- The third pass names what reason 5 covers. Assumes nothing.
-use Rattle.std.proofs.Common.{◌≡◌, ℕ, zero, suc, ◌+◌, ◌<◌, ◌≤◌, Bool, true, false, cond, not, ◌&&◌, ◌||◌, eqb, ltb, ◌≢◌, List, [], ◌∷◌, ◌++◌, map, length, get_or, set, Some, None, Option, sym, refl, ap, ◌∙◌, subst, ⊎_elim, append_assoc, arith, length-set, get_or-set_other, get_or-set_same}
+use Rattle.std.proofs.Common.{◌≡◌, ℕ, ◌+◌, ◌<◌, ◌≤◌, Bool, true, false, cond, not, ◌&&◌, ◌||◌, eqb, ltb, List, [], ◌∷◌, ◌++◌, length, Some, None, Option, sym, refl, ap, ◌∙◌, subst, ⊎_elim, append_assoc, arith, length-set, get_or-set_other, get_or-set_same}
 use Rattle.std.proofs.lemmas.Bool.{cases_Bool, cases_eq, cond-true, cond-false, eq-eqb, ne_eqb, lt-ltb, le-ltb}
 use Rattle.hir.specs.declared.ids.IdentifierId.{IdentifierId}
 use Rattle.hir.specs.declared.scratch.Work.{Work}
@@ -7,22 +7,21 @@ use Rattle.hir.specs.declared.tables.JournalRow.{JournalRow}
 use Rattle.hir.specs.declared.tables.Reason.TheVariants as reasons
 use Rattle.hir.specs.Environments.{Model, declaration_of}
 use Rattle.hir.specs.Lists.{Each, over}
-use Rattle.hir.specs.Scratches.{Notes, Tables, no_work, work_of}
-use Rattle.hir.specs.Sound.{Sound, Known}
+use Rattle.hir.specs.Scratches.{Tables, no_work, work_of}
+use Rattle.hir.specs.Sound.{Known}
 use Rattle.walk.specs.Events.{whole}
 use Rattle.walk.proofs.Rows.{over_append}
-use Rattle.promote.specs.Growth.{Grows, none}
-use Rattle.promote.specs.Identifier.{as_promoted, promoted, promote_if, is_unnamed, row}
+use Rattle.promote.specs.Growth.{none}
+use Rattle.promote.specs.Identifier.{as_promoted, promote_if, is_unnamed, row}
 use Rattle.promote.proofs.Growing.{sound_grows}
 use Rattle.interposed.specs.Acts as table
 use Rattle.reasons.specs.Journals.{declares}
 use Rattle.reasons.specs.Coverings.{covers, filter}
 use Rattle.reasons.specs.Interposed as known
-use Rattle.reasons.proofs.Bools.{or_true, or_false, and_true, and_false}
+use Rattle.reasons.proofs.Bools.{or_true, or_false, and_false}
 use Rattle.reasons.proofs.Admitting.{taken, admit, taken_push}
-use Rattle.reasons.proofs.Views.{View, view_unnamed, same_field}
+use Rattle.reasons.proofs.Views.{view_unnamed, same_field}
 use Rattle.reasons.proofs.Steps.{Seen, seen_list, goes_declares}
-use Rattle.reasons.proofs.Early.{Static}
 use Rattle.reasons.proofs.Late.{covers_append}
 
 -- one identifier, as known and as its work row has it

@@ -1,30 +1,28 @@
 -- The second pass names what reasons 1 to 4 cover. Assumes nothing.
-use Rattle.std.proofs.Common.{◌≡◌, ℕ, zero, suc, ◌<◌, ◌≤◌, Bool, true, false, cond, not, ◌&&◌, ◌||◌, eqb, ◌≢◌, List, [], ◌∷◌, ◌++◌, map, length, get_or, set, sym, refl, ap, ◌∙◌, subst, ⊎_elim, arith, get_or-set_other, get_or-set_same}
+use Rattle.std.proofs.Common.{◌≡◌, ℕ, zero, suc, ◌<◌, Bool, true, false, ◌&&◌, ◌||◌, List, [], ◌∷◌, ◌++◌, length, get_or, set, sym, refl, ap, ◌∙◌, subst, ⊎_elim, arith, get_or-set_other, get_or-set_same}
 use Rattle.std.proofs.lemmas.Bool.{cases_Bool, cases_eq, cond-true, cond-false, cond_both, eq-eqb, ne_eqb}
 use Rattle.hir.specs.declared.ids.FunctionId.{FunctionId}
 use Rattle.hir.specs.declared.ids.IdentifierId.{IdentifierId}
 use Rattle.hir.specs.declared.ids.ScopeId.{ScopeId}
 use Rattle.hir.specs.declared.span.Span.{Span}
-use Rattle.hir.specs.declared.tables.Function.{Function}
 use Rattle.hir.specs.declared.tables.JournalRow.{JournalRow}
 use Rattle.hir.specs.declared.tables.Reason.{Reason}
 use Rattle.hir.specs.declared.tables.Reason.TheVariants as reasons
-use Rattle.hir.specs.declared.tables.Scope.{Scope}
 use Rattle.hir.specs.Environments.{Model, no_scope, no_function, declaration_of, scope_of, function_of}
 use Rattle.hir.specs.Lists.{Each, over}
-use Rattle.hir.specs.Scratches.{Notes, Tables, work_of}
-use Rattle.hir.specs.Sound.{Sound, ScopeSound, FunctionSound, Known, KnownIn, KnownFunction}
+use Rattle.hir.specs.Scratches.{Tables, work_of}
+use Rattle.hir.specs.Sound.{ScopeSound, FunctionSound, Known, KnownIn, KnownFunction}
 use Rattle.hir.specs.Spans.{identifiers_in, functions_in}
 use Rattle.hir.specs.declared.scratch.Work.{Work}
 use Rattle.promote.specs.Identifier.{as_promoted, promoted, promote_if, promote_unnamed, is_unnamed}
 use Rattle.promote.specs.Temporaries as temporaries
-use Rattle.promote.proofs.Growing.{Kept, kept, grows_each, grows_unnamed, sound_grows}
+use Rattle.promote.proofs.Growing.{sound_grows}
 use Rattle.promote.proofs.Visiting as visiting
 use Rattle.walk.proofs.Rows.{over_append}
 use Rattle.reasons.specs.Journals.{declares}
-use Rattle.reasons.specs.Coverings.{covers, filter, Covered, with_rows, entering, reaching, covering}
+use Rattle.reasons.specs.Coverings.{covers, filter, Covered, entering, reaching, covering}
 use Rattle.reasons.proofs.Admitting.{admit}
-use Rattle.reasons.proofs.Views.{View, same_field}
+use Rattle.reasons.proofs.Views.{same_field}
 use Rattle.reasons.proofs.Steps.{Seen, seen_list, filter_all, unnamed_is, goes_declares}
 
 -- the lists of the tables that are there

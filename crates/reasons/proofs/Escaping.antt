@@ -8,7 +8,7 @@ use Rattle.hir.specs.Environments.{Model, declaration_of, scope_of}
 use Rattle.hir.specs.Lists.{some, over}
 use Rattle.hir.specs.Spans.{identifiers_in}
 use Rattle.collect.specs.Promotable as collect
-use Rattle.reasons.specs.Escapes.{Seen, never, since, Known, nothing, among, outside, used, recorded, at_declaration, act, has_escaped}
+use Rattle.reasons.specs.Escapes.{Seen, never, since, Known, nothing, among, outside, used, recorded, act, has_escaped}
 use Rattle.reasons.specs.Sentences.{records, uses_one, active_by, active_at, RecordedAt, UsedAt, Escaped}
 use Rattle.reasons.proofs.Bools.{true_false, was_not}
 

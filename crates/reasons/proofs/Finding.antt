@@ -1,12 +1,12 @@
 -- The definition of interposed uses says what its sentence says. Assumes nothing.
-use Rattle.std.proofs.Common.{◌≡◌, ℕ, zero, suc, ◌<◌, ◌≤◌, Bool, true, false, cond, not, ◌&&◌, ◌||◌, eqb, ◌⊎◌, List, [], ◌∷◌, ◌++◌, length, get_or, take, Some, None, sym, refl, ap, ◌∙◌, subst, inl, inr, ⊎_elim, arith, take_all}
+use Rattle.std.proofs.Common.{◌≡◌, ℕ, zero, suc, ◌<◌, ◌≤◌, Bool, true, false, cond, not, ◌&&◌, ◌||◌, eqb, ◌⊎◌, List, [], ◌∷◌, length, Some, None, sym, refl, ap, ◌∙◌, subst, inl, inr, ⊎_elim, arith, take_all}
 use Rattle.std.proofs.lemmas.List.{get_or_past}
 use Rattle.std.proofs.lemmas.Bool.{cases_Bool, cases_eq, cases_lt, cases_order, cond-true, cond-false, cond_both, eqb-true, or_cases, and_parts}
 use Rattle.hir.specs.declared.ids.IdentifierId.{IdentifierId}
 use Rattle.hir.specs.Lists.{some, over}
 use Rattle.hir.specs.Spans.{ident}
 use Rattle.interposed.specs.Acts as third
-use Rattle.reasons.specs.Interposed.{Known, plus, minus, finds, fixing, globally, tracking, raising, if, act, nothing, interposed}
+use Rattle.reasons.specs.Interposed.{Known, finds, fixing, globally, tracking, raising, if, act, nothing, interposed}
 use Rattle.reasons.specs.Sentences.{tracks_it, raises_it, uses_it, known_at, act_at, TrackedAt, BarrierAt, FoundAt, Found}
 use Rattle.reasons.proofs.Bools.{or_false, and_true, and_false, true_false, was_not}
 use Rattle.reasons.proofs.Admitting.{some_append}

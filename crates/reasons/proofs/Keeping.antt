@@ -1,6 +1,6 @@
 -- The laws of every journal. Assumes nothing.
-use Rattle.std.proofs.Common.{◌≡◌, ℕ, zero, suc, Bool, true, false, cond, not, ◌&&◌, ◌||◌, eqb, List, [], ◌∷◌, ◌++◌, length, Some, None, Option, sym, refl, ap, ◌∙◌, subst, ⊎_elim, append_assoc, arith}
-use Rattle.std.proofs.lemmas.Bool.{cases_Bool, cond-true, cond-false, cond_both, eqb-true, eqb-false, ne_eqb, eq-eqb, or_parts, or_from, and_parts}
+use Rattle.std.proofs.Common.{◌≡◌, ℕ, zero, suc, Bool, true, false, cond, ◌&&◌, ◌||◌, eqb, List, [], ◌∷◌, ◌++◌, length, Some, None, Option, sym, refl, ap, ◌∙◌, ⊎_elim, append_assoc, arith}
+use Rattle.std.proofs.lemmas.Bool.{cases_Bool, cond-true, cond-false, cond_both, eqb-true, ne_eqb, eq-eqb, or_parts, or_from, and_parts}
 use Rattle.hir.specs.declared.ids.FunctionId.{FunctionId}
 use Rattle.hir.specs.declared.ids.IdentifierId.{IdentifierId}
 use Rattle.hir.specs.declared.span.Span.{Span}
@@ -16,10 +16,9 @@ use Rattle.promote.specs.Temporaries as temporaries
 use Rattle.instances.specs.Instances as instances
 use Rattle.reasons.specs.Journals.{names, is_named, firsts, declares}
 use Rattle.reasons.specs.Escapes.{escaped}
-use Rattle.reasons.specs.Coverings.{covers, filter, Covered, with_rows, entering, reaching, covering, early, between, before, visits, late, coverings, journal}
+use Rattle.reasons.specs.Coverings.{covers, filter, Covered, entering, reaching, covering, early, between, before, visits, late, coverings, journal}
 use Rattle.reasons.specs.Laws.{first_reason, Once, visited, Sixth, JournalLaws}
 use Rattle.reasons.proofs.Bools.{or_true, and_false}
-use Rattle.reasons.proofs.Admitting.{some_append}
 
 -- the first rows keep of each identifier the first reason, unless it had a name
 first_of : (i : ℕ) (named : ℕ → Bool) (rows : List JournalRow) → first_reason i (firsts named rows) ≡ cond (named i) None (first_reason i rows)

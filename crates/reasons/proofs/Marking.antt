@@ -1,6 +1,6 @@
 -- The first pass notes which declarations are tags and which escaped. Assumes nothing.
-use Rattle.std.proofs.Common.{◌≡◌, ℕ, zero, suc, ◌+◌, ◌-◌, ◌<◌, ◌≤◌, Bool, true, false, cond, not, ◌&&◌, ◌||◌, eqb, ◌≢◌, List, [], ◌∷◌, ◌++◌, map, length, get_or, set, sym, refl, ap, ◌∙◌, subst, ⊎_elim, add-one, arith, length-set, get_or-set_other, get_or-set_same}
-use Rattle.std.proofs.lemmas.Bool.{cases_Bool, cases_eq, cond-true, cond-false, cond_both, eq-eqb, ne_eqb, eqb-true}
+use Rattle.std.proofs.Common.{◌≡◌, ℕ, zero, suc, ◌+◌, ◌-◌, ◌<◌, ◌≤◌, Bool, true, false, not, ◌&&◌, ◌||◌, eqb, ◌≢◌, List, [], ◌∷◌, map, length, get_or, set, sym, refl, ap, ◌∙◌, subst, ⊎_elim, add-one, arith, length-set, get_or-set_other, get_or-set_same}
+use Rattle.std.proofs.lemmas.Bool.{cases_Bool, cases_eq, cond-true, cond-false, eq-eqb, ne_eqb}
 use Rattle.hir.specs.declared.ids.IdentifierId.{IdentifierId}
 use Rattle.hir.specs.declared.ids.ScopeId.{ScopeId}
 use Rattle.hir.specs.declared.scratch.Trail.{Trail}
@@ -8,13 +8,12 @@ use Rattle.hir.specs.declared.scratch.Work.{Work}
 use Rattle.hir.specs.Environments.{Model, declaration_of, scope_of}
 use Rattle.hir.specs.Lists.{Each, some, over}
 use Rattle.hir.specs.Scratches.{Notes, Tables, both, no_work, no_trail, work_of}
-use Rattle.hir.specs.Sound.{Sound, Known}
+use Rattle.hir.specs.Sound.{Known}
 use Rattle.hir.specs.Spans.{identifiers_in}
 use Rattle.promote.specs.Identifier.{with_work}
 use Rattle.walk.specs.Events.{Whole, whole}
-use Rattle.walk.proofs.Acting.{Splits}
 use Rattle.collect.specs.declared.promotable.CollectPromotable.{CollectPromotable}
-use Rattle.collect.specs.Links.{along, scopes_along, is_along, trail_of}
+use Rattle.collect.specs.Links.{along, is_along, trail_of}
 use Rattle.collect.specs.Promotable as table
 use Rattle.collect.proofs.Keeping as keeping
 use Rattle.reasons.specs.Escapes as known

@@ -1,5 +1,5 @@
 -- The four passes leave what the coverings of a run say. Assumes nothing.
-use Rattle.std.proofs.Common.{◌≡◌, ℕ, ◌<◌, ◌≤◌, Bool, true, false, cond, ◌&&◌, ◌||◌, ltb, List, [], ◌∷◌, ◌++◌, length, get_or, replicate, sym, refl, ap, ◌∙◌, subst, ⊎_elim, append_assoc, append-nil, arith}
+use Rattle.std.proofs.Common.{◌≡◌, ℕ, Bool, false, ◌&&◌, ltb, List, [], ◌∷◌, ◌++◌, length, get_or, replicate, sym, refl, ap, ◌∙◌, subst, ⊎_elim, append_assoc, append-nil, arith}
 use lib.ListN.{length-replicate}
 use Rattle.std.proofs.lemmas.List.{get_or-replicate, get_or_past}
 use Rattle.std.proofs.lemmas.Bool.{cases_lt, cond_both}
@@ -11,12 +11,12 @@ use Rattle.hir.specs.declared.tables.Reason.TheVariants as reasons
 use Rattle.hir.specs.Environments.{Model, declaration_of}
 use Rattle.hir.specs.Lists.{Each, over}
 use Rattle.hir.specs.Scratches.{Notes, Tables, no_work, blank, work_of}
-use Rattle.hir.specs.Sound.{Sound, Known, KnownIn}
+use Rattle.hir.specs.Sound.{Sound, KnownIn}
 use Rattle.hir.specs.Spans.{identifiers_in}
 use Rattle.reactive.specs.Rows.{Row}
 use Rattle.walk.specs.Events.{Whole}
 use Rattle.walk.proofs.Rows.{over_append}
-use Rattle.promote.specs.Growth.{Grows, none}
+use Rattle.promote.specs.Growth.{none}
 use Rattle.promote.specs.Identifier.{as_promoted, promote_unnamed}
 use Rattle.promote.specs.Temporaries as temporaries
 use Rattle.promote.proofs.Growing.{Kept, kept, sound_grows}
@@ -26,15 +26,14 @@ use Rattle.collect.proofs.Keeping as keeping
 use Rattle.interposed.specs.Acts as interposes
 use Rattle.interposed.specs.Interposed as interposed
 use Rattle.instances.specs.Instances as instances
-use Rattle.reasons.specs.Journals.{declares, firsts, is_named, name_all}
+use Rattle.reasons.specs.Journals.{declares}
 use Rattle.reasons.specs.Escapes as escapes
 use Rattle.reasons.specs.Interposed as known
 use Rattle.reasons.specs.Coverings.{covers, filter, early, between, before, late, visits, journal, upper, ran, named_then}
 use Rattle.reasons.specs.Passes.{reset, passed}
 use Rattle.reasons.proofs.Admitting.{admit, taken, taken_over, firsts_all}
-use Rattle.reasons.proofs.Views.{View}
 use Rattle.reasons.proofs.Steps.{Seen}
-use Rattle.reasons.proofs.Early.{Static, Covers, covers_parameters, covers_all, kept_field}
+use Rattle.reasons.proofs.Early.{Static, covers_parameters, covers_all, kept_field}
 use Rattle.reasons.proofs.Late.{seen_visited, seen_acts, filter_append, covers_append}
 use Rattle.reasons.proofs.Between.{Knows, knows_all, Agrees}
 use Rattle.reasons.proofs.Marking.{Marks, marks_all, tags_after, unseen, ends, agrees_escaped}

@@ -1,12 +1,12 @@
 -- Naming the identifiers of a list under a condition, seen as admitting coverings. Assumes nothing.
-use Rattle.std.proofs.Common.{◌≡◌, ℕ, ◌<◌, ◌≤◌, Bool, true, false, cond, not, ◌&&◌, ◌||◌, eqb, List, [], ◌∷◌, ◌++◌, map, length, sym, refl, ap, ◌∙◌, subst, ⊎_elim, arith}
+use Rattle.std.proofs.Common.{◌≡◌, ℕ, Bool, true, false, not, ◌&&◌, ◌||◌, List, [], ◌∷◌, ◌++◌, sym, refl, ap, ◌∙◌, subst, ⊎_elim, arith}
 use Rattle.std.proofs.lemmas.Bool.{cases_Bool, cond-true, cond-false, eq-eqb, ne_eqb, and_parts}
 use Rattle.hir.specs.declared.ids.IdentifierId.{IdentifierId}
 use Rattle.hir.specs.declared.tables.JournalRow.{JournalRow}
 use Rattle.hir.specs.declared.tables.Reason.{Reason}
 use Rattle.hir.specs.Environments.{Model, declaration_of}
-use Rattle.hir.specs.Lists.{Each, some, over}
-use Rattle.hir.specs.Scratches.{Tables, work_of}
+use Rattle.hir.specs.Lists.{Each, over}
+use Rattle.hir.specs.Scratches.{Tables}
 use Rattle.hir.specs.Sound.{Sound, Known}
 use Rattle.promote.specs.Growth.{Grows}
 use Rattle.promote.specs.Identifier.{promoted, promote_if, promote_unnamed, is_unnamed, row}

@@ -1,7 +1,6 @@
 -- Which declarations the first pass notes as those of tags. Assumes nothing.
-use Rattle.std.proofs.Common.{◌≡◌, ℕ, Bool, true, false, cond, ◌&&◌, ◌||◌, eqb, leb, List, [], ◌∷◌, ◌++◌, map, length, sym, refl, ap, ◌∙◌, subst, ⊎_elim, arith}
+use Rattle.std.proofs.Common.{◌≡◌, ℕ, Bool, true, false, cond, ◌&&◌, ◌||◌, eqb, leb, List, [], ◌∷◌, ◌++◌, map, length, sym, refl, ap, ◌∙◌, ⊎_elim, arith}
 use Rattle.std.proofs.lemmas.Bool.{cases_Bool, cond-true, cond-false, eqb-true, ne_eqb}
-use Rattle.hir.specs.declared.ids.IdentifierId.{IdentifierId}
 use Rattle.hir.specs.Environments.{Model, declaration_of}
 use Rattle.hir.specs.Lists.{some, over}
 use Rattle.reactive.specs.declared.code.Code.TheVariants as codes
@@ -9,7 +8,7 @@ use Rattle.reactive.specs.declared.row.RowHead.{RowHead}
 use Rattle.reactive.specs.Codes.{used_in, listed}
 use Rattle.reactive.specs.Numbers.{scope_in}
 use Rattle.reactive.specs.Rows.{Row, head, is}
-use Rattle.walk.specs.Events.{Event, entering, leaving, closing, staying, events, acts_of}
+use Rattle.walk.specs.Events.{Event, leaving, closing, staying, events, acts_of}
 use Rattle.collect.specs.Promotable as table
 use Rattle.reasons.specs.Coverings.{upper}
 use Rattle.reasons.proofs.Bools.{or_false, or_assoc}

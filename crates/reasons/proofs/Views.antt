@@ -1,23 +1,21 @@
 -- The tables of a run as the journal rows so far and what is noted of declarations. Assumes nothing.
-use Rattle.std.proofs.Common.{◌≡◌, ℕ, zero, suc, ◌+◌, ◌<◌, ◌≤◌, Bool, true, false, cond, not, ◌&&◌, ◌||◌, eqb, ◌≢◌, List, [], ◌∷◌, ◌++◌, map, length, get_or, set, sym, refl, ap, ◌∙◌, subst, ⊎_elim, arith, length-set, get_or-set_other, get_or-set_same}
-use Rattle.std.proofs.lemmas.Bool.{cases_Bool, cases_eq, cond-true, cond-false, eq-eqb, ne_eqb, eqb-true, and_parts}
+use Rattle.std.proofs.Common.{◌≡◌, ℕ, zero, suc, ◌<◌, Bool, true, false, cond, not, ◌||◌, eqb, List, [], ◌∷◌, ◌++◌, length, get_or, set, sym, refl, ap, ◌∙◌, ⊎_elim, arith, length-set, get_or-set_other, get_or-set_same}
+use Rattle.std.proofs.lemmas.Bool.{cases_eq, eq-eqb, ne_eqb, eqb-true}
 use Rattle.hir.specs.declared.ids.IdentifierId.{IdentifierId}
 use Rattle.hir.specs.declared.scratch.Work.{Work}
 use Rattle.hir.specs.declared.tables.Identifier.{Identifier}
 use Rattle.hir.specs.declared.tables.JournalRow.{JournalRow}
 use Rattle.hir.specs.declared.tables.Reason.{Reason}
-use Rattle.hir.specs.Environments.{Model, no_identifier, row_of, tag_of, declaration_of, tagged, journaled}
-use Rattle.hir.specs.Lists.{Each, some, over}
-use Rattle.hir.specs.Scratches.{Notes, Tables, no_work, work_of}
+use Rattle.hir.specs.Environments.{Model, no_identifier, tag_of, declaration_of, tagged, journaled}
+use Rattle.hir.specs.Lists.{Each}
+use Rattle.hir.specs.Scratches.{Tables, no_work, work_of}
 use Rattle.hir.specs.Sound.{Sound, Known}
-use Rattle.promote.specs.Growth.{Named, Grows}
-use Rattle.promote.specs.Identifier.{as_promoted, promoted, promote_if, promote_unnamed, is_unnamed, letter_tag, row}
-use Rattle.promote.proofs.Growing.{Kept, kept, grows_none, grows_trans, grows_promoted, grows_if, sound_grows}
+use Rattle.promote.specs.Identifier.{as_promoted, promoted, is_unnamed, letter_tag, row}
+use Rattle.promote.proofs.Growing.{Kept, kept, grows_promoted}
 use Rattle.walk.proofs.Rows.{over_append}
-use Rattle.reasons.specs.Journals.{names, is_named, declares, name_one, name_all}
-use Rattle.reasons.specs.Coverings.{covers, filter}
+use Rattle.reasons.specs.Journals.{names, is_named, name_one, name_all}
 use Rattle.reasons.proofs.Bools.{or_swap}
-use Rattle.reasons.proofs.Admitting.{taken, admit, taken_push}
+use Rattle.reasons.proofs.Admitting.{taken}
 
 -- naming the identifier of a row leaves it named, and no other
 named_one : (up : ℕ → Bool) (m : Model) (r : JournalRow) (i : ℕ) → Known m r.identifier → is_named (name_one up m r) i ≡ (eqb i r.identifier.0 || is_named m i)

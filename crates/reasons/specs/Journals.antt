@@ -1,5 +1,5 @@
 -- Which coverings a run journals. Assumes nothing.
-use Rattle.std.specs.Prelude.{ℕ, Bool, false, cond, not, ◌||◌, List, [], ◌∷◌, ◌==◌, nat_eq}
+use Rattle.std.specs.Prelude.{ℕ, Bool, cond, not, ◌||◌, List, [], ◌∷◌, ◌==◌, nat_eq}
 use Rattle.hir.specs.declared.tables.JournalRow.{JournalRow}
 use Rattle.hir.specs.Environments.{Model, tag_of, declaration_of, tagged, journaled}
 use Rattle.hir.specs.Lists.{some, over}

@@ -2,12 +2,10 @@
 use Rattle.std.specs.Prelude.{◌≡◌, ℕ, List, [], ◌∷◌, ◌++◌, Some, None, Option}
 use Rattle.hir.specs.declared.ids.IdentifierId.{IdentifierId}
 use Rattle.hir.specs.declared.span.Span.{Span}
-use Rattle.hir.specs.declared.tables.Function.{Function}
 use Rattle.hir.specs.declared.tables.Identifier.{Identifier}
 use Rattle.hir.specs.declared.tables.JournalRow.{JournalRow}
 use Rattle.hir.specs.declared.tables.Reason.{Reason}
 use Rattle.hir.specs.declared.tables.Reason.TheVariants as reasons
-use Rattle.hir.specs.declared.tables.Scope.{Scope}
 use Rattle.hir.specs.Environments.{Model, no_span}
 use Rattle.hir.specs.Spans.{ident}
 use Rattle.reactive.specs.declared.row.Number.{Number}

@@ -1,10 +1,10 @@
 -- One row of a walk. Assumes nothing.
-use Rattle.std.proofs.Common.{◌≡◌, ℕ, ◌+◌, ◌<◌, ◌≤◌, min, true, List, [], ◌∷◌, ◌++◌, length, get_or, set, is_some, Some, None, Option, unwrap_or, sym, refl, ap, ◌∙◌, subst, arith}
+use Rattle.std.proofs.Common.{◌≡◌, ℕ, ◌+◌, ◌<◌, min, true, List, [], ◌∷◌, ◌++◌, length, set, is_some, Some, None, Option, unwrap_or, sym, refl, ap, ◌∙◌, subst, arith}
 use Rattle.hir.specs.Lists.{over, Each}
 use Rattle.reactive.specs.declared.row.RowHead.{RowHead}
-use Rattle.reactive.specs.Rows.{Row, Reading, head, left, upcoming, advanced, given, last_row, no_row}
-use Rattle.reactive.proofs.Steps.{Gives, gives, ended}
-use Rattle.walk.specs.Events.{Event, entering, leaving, closing, staying, innermost_of, events, Allowed, Shallow, standing}
+use Rattle.reactive.specs.Rows.{Reading, head, left, upcoming, advanced, given, last_row, no_row}
+use Rattle.reactive.proofs.Steps.{gives, ended}
+use Rattle.walk.specs.Events.{Event, entering, closing, staying, innermost_of, events, Allowed, Shallow, standing}
 use Rattle.walk.proofs.Standing.{staying_min, standing_push}
 
 pub over_append : {W A : Type 0} (f : W → A → W) (w : W) (xs ys : List A) → over f w (xs ++ ys) ≡ over f (over f w xs) ys

@@ -3,7 +3,7 @@ use Rattle.std.proofs.Common.{◌≡◌, ℕ, zero, suc, ◌+◌, ◌-◌, ◌<�
 use Rattle.std.proofs.lemmas.Bool.{cond-true, cond-false, le-leb, lt-leb, cases_lt}
 use Rattle.reactive.specs.declared.row.RowHead.{RowHead}
 use Rattle.reactive.specs.Rows.{head, no_row}
-use Rattle.walk.specs.Events.{Event, leaving, closing, staying, innermost_of, standing}
+use Rattle.walk.specs.Events.{leaving, closing, staying, innermost_of, standing}
 
 standing_length : (st : List RowHead) (n : ℕ) → length (standing st n) ≡ n
 standing_length st zero = refl

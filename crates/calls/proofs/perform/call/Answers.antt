@@ -1,9 +1,9 @@
-use Rattle.std.proofs.Common.{◌≡◌, map, set, Ok, Err, sym, refl, ap, subst}
+use Rattle.std.proofs.Common.{map, set, Ok, Err, sym, refl, subst}
 use Rattle.hir.specs.Environments.{model}
 use Rattle.hir.specs.Scratches.{noted}
 use Rattle.calls.specs.declared.requests.Request.{Request}
 use Rattle.calls.specs.declared.requests.Answer.TheVariants.{NoTree, Ran, Refused}
-use Rattle.calls.specs.Histories.{World, world, Follows}
+use Rattle.calls.specs.Histories.{world, Follows}
 use Rattle.calls.proofs.Calling.{run_nowhere, run_follows}
 use Rattle.calls.proofs.perform.call.Goals as goal
 

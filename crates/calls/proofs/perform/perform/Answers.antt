@@ -1,4 +1,4 @@
-use Rattle.std.proofs.Common.{◌≡◌, ℕ, map, length, subst, arith}
+use Rattle.std.proofs.Common.{◌≡◌, ℕ, map, subst, arith}
 use Rattle.hir.specs.Environments.{model}
 use Rattle.hir.specs.Scratches.{noted}
 use Rattle.calls.specs.Histories.{world}

@@ -1,8 +1,7 @@
-use Rattle.std.proofs.Common.{◌≡◌, length, sym, ap, ◌∙◌}
+use Rattle.std.proofs.Common.{length, sym, ap, ◌∙◌}
 use Rattle.std.proofs.lemmas.Result.{err_from_is_err_and}
 use Rattle.hir.specs.Environments.{model}
 use Rattle.hir.specs.Refusals.{answered, or_else}
-use Rattle.hir.specs.Scratches.{noted}
 use Rattle.reactive.specs.Rows.{Reading, rewound}
 use Rattle.checks.specs.Rows.{sizes, tree_refusal}
 use Rattle.calls.proofs.Passing.{answered_none, answered_some}

@@ -4,7 +4,7 @@ use Rattle.hir.specs.Scratches.{tables, both}
 use Rattle.reactive.specs.Rows.{Reading}
 use Rattle.promote.proofs.Visiting as visiting
 use Rattle.instances.proofs.Passes as instancing
-use Rattle.calls.proofs.Passing.{Passable, passable, ready_collect, ready_interposed, after_collect, after_temporaries, after_interposed}
+use Rattle.calls.proofs.Passing.{passable, ready_collect, ready_interposed, after_collect, after_temporaries, after_interposed}
 use Rattle.calls.proofs.run.promote_used_temporaries.Goals as goal
 
 pub collect_promotable-requires : goal.collect_promotable-requires

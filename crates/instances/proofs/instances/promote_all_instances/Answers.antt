@@ -1,4 +1,4 @@
-use Rattle.std.proofs.Common.{◌≡◌, [], sym, ap, ◌∙◌, subst}
+use Rattle.std.proofs.Common.{[], sym, ap, ◌∙◌, subst}
 use Rattle.hir.specs.Lists.{over}
 use Rattle.hir.specs.Scratches.{Tables, tables}
 use Rattle.walk.specs.Events.{Whole, whole, events}

@@ -1,7 +1,7 @@
-use Rattle.std.proofs.Common.{◌≡◌, ◌+◌, sym, ap, subst, arith}
+use Rattle.std.proofs.Common.{◌+◌, sym, ap, subst, arith}
 use Rattle.hir.specs.Scratches.{Tables, tables}
 use Rattle.reactive.specs.declared.row.RowHead.{RowHead}
-use Rattle.reactive.specs.Rows.{Row, last_row}
+use Rattle.reactive.specs.Rows.{last_row}
 use Rattle.reactive.proofs.Lists.{found_here, found_within}
 use Rattle.walk.proofs.Acting.{Doing, doing_none, doing_one, doing_more, doing_all}
 use Rattle.instances.specs.Instances.{again, does, Ready}

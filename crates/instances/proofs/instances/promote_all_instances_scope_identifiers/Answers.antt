@@ -3,7 +3,6 @@ use Rattle.hir.specs.Environments.{scope_of}
 use Rattle.hir.specs.Lists.{over}
 use Rattle.hir.specs.Scratches.{Tables, tables}
 use Rattle.hir.specs.Spans.{identifiers_in}
-use Rattle.promote.specs.Growth.{Grows}
 use Rattle.promote.proofs.Growing.{grows_none}
 use Rattle.promote.proofs.Listing.{next_sound, next_known, next_grows, next_same}
 use Rattle.instances.specs.Instances.{promote_instance}

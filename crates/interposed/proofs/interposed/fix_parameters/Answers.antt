@@ -1,4 +1,4 @@
-use Rattle.std.proofs.Common.{◌≡◌, ℕ, List, map, sym, ap, ◌∙◌, subst, arith}
+use Rattle.std.proofs.Common.{ℕ, List, map, sym, ap, ◌∙◌, subst, arith}
 use Rattle.hir.specs.Lists.{over}
 use Rattle.hir.specs.Scratches.{tables}
 use Rattle.hir.specs.Spans.{ident, part}

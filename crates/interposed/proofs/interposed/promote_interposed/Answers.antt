@@ -1,4 +1,4 @@
-use Rattle.std.proofs.Common.{◌≡◌, [], map, sym, ap, ◌∙◌}
+use Rattle.std.proofs.Common.{[], map, ap, ◌∙◌}
 use Rattle.hir.specs.Scratches.{tables}
 use Rattle.hir.specs.Spans.{identifiers_in}
 use Rattle.walk.specs.Events.{events, acts_of}

@@ -1,4 +1,4 @@
-use Rattle.std.proofs.Common.{◌≡◌, [], sym, ap, ◌∙◌, subst}
+use Rattle.std.proofs.Common.{[], sym, ap, ◌∙◌, subst}
 use Rattle.hir.specs.declared.tables.Reason.TheVariants as reasons
 use Rattle.hir.specs.Lists.{over}
 use Rattle.hir.specs.Scratches.{Tables, tables}

@@ -1,4 +1,4 @@
-use Rattle.std.proofs.Common.{◌≡◌, ◌+◌, ◌-◌, ◌<◌, ◌≤◌, length, sym, ap, ◌∙◌, arith}
+use Rattle.std.proofs.Common.{◌≡◌, ◌+◌, ◌-◌, ◌≤◌, sym, ap, ◌∙◌, arith}
 use Rattle.walk.specs.Events.{closing, standing}
 use Rattle.walk.proofs.Rows.{onward_same, onward_step, onward_end}
 use Rattle.walk.proofs.Standing.{closing_none, closing_more}

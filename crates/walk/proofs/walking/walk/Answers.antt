@@ -1,4 +1,4 @@
-use Rattle.std.proofs.Common.{◌≡◌, ◌<◌, ◌≤◌, length, sym, refl, ap, ◌∙◌, subst, arith, length-set}
+use Rattle.std.proofs.Common.{◌<◌, length, ap, ◌∙◌, subst, arith, length-set}
 use Rattle.reactive.specs.Rows.{Reading, rewound, at_place}
 use Rattle.walk.proofs.Rows.{Walking, some_last, row_last, deep, closes, shrinks, may_enter, walked, closes_all, walked_all, array_push, array_innermost}
 use Rattle.walk.proofs.walking.walk.Goals as goal

@@ -1,5 +1,5 @@
 use Rattle.std.proofs.Common.{ap}
-use Rattle.hir.specs.Scratches.{Tables, tables}
+use Rattle.hir.specs.Scratches.{Tables}
 use Rattle.reactive.specs.Rows.{last_row}
 use Rattle.walk.specs.Events.{whole}
 use Rattle.instances.proofs.Passes.{ready_operands, ready_function, leaf_done}

@@ -1,4 +1,4 @@
-use Rattle.std.proofs.Common.{◌≡◌, sym, ap, ◌∙◌}
+use Rattle.std.proofs.Common.{sym, ap, ◌∙◌}
 use Rattle.hir.specs.Lists.{over}
 use Rattle.hir.specs.Scratches.{tables}
 use Rattle.reactive.specs.Rows.{last_row}

@@ -1,5 +1,5 @@
-use Rattle.std.proofs.Common.{◌≡◌, ◌+◌, sym, ap, subst, arith}
-use Rattle.hir.specs.Scratches.{Tables, tables}
+use Rattle.std.proofs.Common.{◌+◌, sym, ap, subst, arith}
+use Rattle.hir.specs.Scratches.{tables}
 use Rattle.reactive.specs.declared.row.RowHead.{RowHead}
 use Rattle.reactive.specs.Rows.{last_row}
 use Rattle.reactive.proofs.Lists.{found_here, found_within}

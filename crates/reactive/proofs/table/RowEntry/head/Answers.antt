@@ -1,7 +1,6 @@
-use Rattle.std.proofs.Common.{◌≡◌, ℕ, length, sym, ap, ◌∙◌}
+use Rattle.std.proofs.Common.{◌≡◌, length, sym, ap, ◌∙◌}
 use Rattle.std.proofs.lemmas.List.{length-map}
 use Rattle.hir.specs.Spans.{ident, part}
-use Rattle.reactive.specs.declared.row.RowHead.{RowHead}
 use Rattle.reactive.proofs.table.RowEntry.head.Goals as goal
 
 pub returns : goal.returns

@@ -1,5 +1,4 @@
-use Rattle.std.proofs.Common.{Some, None, sym, ◌∙◌}
-use Rattle.reactive.specs.Rows.{Row}
+use Rattle.std.proofs.Common.{Some, None, ◌∙◌}
 use Rattle.reactive.proofs.Places.{table_list}
 use Rattle.reactive.proofs.table.TableSourceTreeSource.mark.Goals as goal
 
