@@ -1,14 +1,13 @@
 -- Bytes taken four or five at a time. Assumes nothing.
-use Rattle.std.proofs.Common.{◌≡◌, ℕ, zero, suc, ◌+◌, ◌-◌, ◌*◌, ◌/◌, ◌^◌, ◌<◌, ◌≤◌, Bool, true, false, cond, ltb, List, [], ◌∷◌, ◌++◌, map, length, get_or, take, drop, is_ok, Ok, Err, Result, sym, refl, ap, ◌∙◌, subst, append_assoc, append-nil, arith, length-append, length-drop, length-take-le}
+use Rattle.std.proofs.Common.{◌≡◌, ℕ, zero, suc, ◌+◌, ◌-◌, ◌*◌, ◌/◌, ◌^◌, ◌<◌, ◌≤◌, Bool, true, false, cond, ltb, List, [], ◌∷◌, ◌++◌, map, length, get_or, take, drop, is_ok, Ok, Err, Result, sym, refl, ap, ◌∙◌, subst, append_assoc, arith, length-append, length-drop, length-take-le}
 use Rattle.std.proofs.lemmas.Bool.{ltb-false}
 use Rattle.image.specs.declared.fault.ByteFault.{ByteFault}
 use Rattle.std.proofs.lemmas.Slice.{between_to_end}
 use Rattle.hir.specs.declared.span.Span.{Span}
-use Rattle.hir.specs.declared.tables.Identifier.{Identifier}
 use Rattle.image.specs.Bytes.{Place, Inside, past, u32_of, words_of, words}
 use Rattle.image.specs.Steps.{and_then, both, missing, numbers_at}
 use Rattle.image_check.specs.Steps.{identifiers_of}
-use Rattle.image_tables.specs.Tables.{identifier_row, AddedList}
+use Rattle.image_tables.specs.Tables.{AddedList}
 
 -- what a pattern `[.., rest @ ..]` calls its rest
 rest_is : (k : ℕ) (bs : List ℕ) → take (length bs - k) (drop k bs) ≡ drop k bs

@@ -1,8 +1,6 @@
 -- Tables that hold some sections hold one more after its rows were put behind theirs. Assumes nothing.
-use Rattle.std.proofs.Common.{◌≡◌, ℕ, zero, suc, ◌+◌, ◌*◌, ◌/◌, ◌<◌, ◌≤◌, Bool, true, false, cond, eqb, List, [], ◌∷◌, ◌++◌, map, length, drop, is_ok, Ok, Err, vec_items, Result, sym, refl, ap, ◌∙◌, subst, append_assoc, append-nil, arith, length-append}
+use Rattle.std.proofs.Common.{◌≡◌, ℕ, ◌+◌, ◌*◌, ◌/◌, ◌≤◌, Bool, true, false, cond, eqb, List, [], ◌∷◌, ◌++◌, map, length, drop, is_ok, Ok, Err, vec_items, Result, sym, refl, ap, ◌∙◌, subst, append_assoc, append-nil, arith, length-append}
 use Rattle.std.proofs.lemmas.List.{map-append}
-use Rattle.hir.specs.declared.tables.Scope.{Scope}
-use Rattle.hir.specs.declared.tables.Function.{Function}
 use Rattle.hir.specs.Lists.{Each}
 use Rattle.image.specs.declared.fault.ByteFault.{ByteFault}
 use Rattle.image.specs.declared.fault.RowFault.{RowFault}
@@ -16,9 +14,8 @@ use Rattle.image_check.proofs.Exact.{Exact, lifted, first_part, middle}
 use Rattle.image_check.proofs.Leaves.{exact_numbers}
 use Rattle.image_check.proofs.Rows.{exact_lists}
 use Rattle.image_check.proofs.Contents.{exact_scope, content_finds}
-use Rattle.image_tables.specs.declared.tables.Panel.{Panel}
 use Rattle.image_tables.specs.declared.tables.Tables.{Tables}
-use Rattle.image_tables.specs.Tables.{identifier_row, scope_lists, function_lists, panel_part, Within, ListsWithin, Holds, AddedScope, AddedFunction, AddedPanel, NewRows, NewBy, AddedSection, ReadsBy, identifiers_in, scopes_in, functions_in, panels_in}
+use Rattle.image_tables.specs.Tables.{scope_lists, function_lists, panel_part, Holds, NewRows, NewBy, AddedSection, ReadsBy, identifiers_in, scopes_in, functions_in, panels_in}
 use Rattle.image_tables.proofs.Chunks.{taken}
 use Rattle.image_tables.proofs.Holding.{Grown, ScopeIn, FunctionIn, PanelIn, scope_same, function_same, panel_same, scopes_stay_in, functions_stay_in, panels_stay_in, map_on, each_append, scope_stands, function_stands, added_grown, added_stands}
 

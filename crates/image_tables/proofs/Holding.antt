@@ -1,26 +1,19 @@
 -- What tables hold after a section's rows were put behind theirs. Assumes nothing.
-use Rattle.std.proofs.Common.{◌≡◌, ℕ, zero, suc, ◌+◌, ◌*◌, ◌/◌, ◌<◌, ◌≤◌, true, List, [], ◌∷◌, ◌++◌, map, length, take, drop, is_ok, Ok, Err, vec_items, Result, sym, refl, ap, ◌∙◌, subst, append_assoc, append-nil, arith, length-append, length-drop}
-use Rattle.std.proofs.lemmas.List.{map-append, take_all, take-append-le, drop-append-le, drop_all}
+use Rattle.std.proofs.Common.{◌≡◌, ℕ, ◌+◌, ◌*◌, ◌≤◌, List, [], ◌∷◌, ◌++◌, map, length, take, drop, Ok, Result, refl, ap, ◌∙◌, append_assoc, arith, length-append, length-drop}
+use Rattle.std.proofs.lemmas.List.{take_all, take-append-le, drop-append-le}
 use Rattle.hir.specs.declared.span.Span.{Span}
 use Rattle.hir.specs.declared.tables.Scope.{Scope}
 use Rattle.hir.specs.declared.tables.Function.{Function}
 use Rattle.hir.specs.Lists.{Each}
 use Rattle.hir.specs.Spans.{part}
 use Rattle.image.specs.declared.fault.ByteFault.{ByteFault}
-use Rattle.image.specs.declared.fault.RowFault.{RowFault}
 use Rattle.image.specs.Bytes.{Place}
-use Rattle.image.specs.Layouts.{Layout, Begins, numbers}
 use Rattle.image.specs.Format.{Content, of_identifiers, of_scope, of_function, of_tree, rank_of, content_bytes, FineContent}
 use Rattle.image.specs.Format as format
-use Rattle.image.specs.Steps.{Held, and_then, in_section, in_row, both, numbers_at}
-use Rattle.image_check.specs.Steps.{identifiers_of, scope_at, function_at, content_at}
-use Rattle.image_check.proofs.Exact.{Exact, lifted, middle, first_part}
-use Rattle.image_check.proofs.Leaves.{exact_numbers}
-use Rattle.image_check.proofs.Rows.{exact_lists}
-use Rattle.image_check.proofs.Contents.{exact_scope, content_finds}
+use Rattle.image.specs.Steps.{and_then, both, numbers_at}
+use Rattle.image_check.specs.Steps.{scope_at, function_at}
 use Rattle.image_tables.specs.declared.tables.Panel.{Panel}
-use Rattle.image_tables.specs.declared.tables.Tables.{Tables}
-use Rattle.image_tables.specs.Tables.{identifier_row, scope_lists, function_lists, panel_part, Within, ListsWithin, Holds, AddedList, AddedScope, AddedFunction, AddedPanel, NewRows, NewBy, AddedSection, ReadsBy, identifiers_in, scopes_in, functions_in, panels_in}
+use Rattle.image_tables.specs.Tables.{scope_lists, function_lists, panel_part, Within, AddedList, AddedScope, AddedFunction}
 use Rattle.image_tables.proofs.Chunks.{taken}
 
 -- a pool with numbers put behind those of another

@@ -1,9 +1,9 @@
 -- How far the sections of an image are loaded. Assumes nothing.
-use Rattle.std.proofs.Common.{◌≡◌, ℕ, zero, suc, ◌+◌, ◌*◌, ◌^◌, ◌<◌, ◌≤◌, List, [], ◌∷◌, ◌++◌, length, Ok, Err, vec_items, Result, sym, refl, ap, ◌∙◌, subst, append_assoc, append-nil, arith, length-append}
+use Rattle.std.proofs.Common.{◌≡◌, ℕ, ◌+◌, ◌*◌, ◌^◌, ◌<◌, ◌≤◌, List, [], ◌∷◌, ◌++◌, length, Ok, Err, vec_items, sym, refl, ap, ◌∙◌, subst, append_assoc, append-nil, arith, length-append}
 use Rattle.image.specs.declared.fault.SectionFault.{SectionFault}
 use Rattle.image.specs.Bytes.{Place, Inside, joined}
 use Rattle.image.specs.Layouts.{Begins}
-use Rattle.image.specs.Format.{Content, rank_of, content_bytes, FineContent, after, section, section_bytes, InOrder, image_bytes, Image}
+use Rattle.image.specs.Format.{Content, rank_of, content_bytes, after, section, section_bytes, InOrder, image_bytes, Image}
 use Rattle.image.specs.Steps.{Held, Opened, section_at, version_at}
 use Rattle.image_check.proofs.Whole.{Found, section_found, open_found, version_there}
 use Rattle.image_tables.specs.declared.tables.Tables.{Tables}

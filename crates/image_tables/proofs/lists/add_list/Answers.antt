@@ -1,4 +1,4 @@
-use Rattle.std.proofs.Common.{◌/◌, ◌^◌, ◌<◌, length, sym, refl, ◌∙◌, arith, rules}
+use Rattle.std.proofs.Common.{◌/◌, ◌^◌, ◌<◌, length, sym, ◌∙◌, arith, rules}
 use Rattle.image.specs.Bytes.{see, words}
 use Rattle.image.specs.Steps.{see_numbers}
 use Rattle.image_tables.proofs.Chunks.{words_length, taken}

@@ -1,5 +1,5 @@
-use Rattle.std.proofs.Common.{sym, ap, ◌∙◌, subst, arith, rules, true-eqb, false-eqb}
-use Rattle.image.specs.Bytes.{Place, Inside}
+use Rattle.std.proofs.Common.{sym, subst, arith, true-eqb, false-eqb}
+use Rattle.image.specs.Bytes.{Place}
 use Rattle.image.specs.Steps.{held, see_open, see_reader}
 use Rattle.image_tables.proofs.Loading.{Loading, open_never, reads, roomy, turn, end}
 use Rattle.image_tables.proofs.load.load.Goals as goal

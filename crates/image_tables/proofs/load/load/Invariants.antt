@@ -1,4 +1,4 @@
-use Rattle.std.proofs.Common.{◌^◌, ◌<◌, length}
+use Rattle.std.proofs.Common.{length}
 use Rattle.image.specs.Steps.{see_reader}
 use Rattle.image_tables.proofs.Loading.{Loading}
 use Rattle.image_tables.proofs.load.load.Given as goal
