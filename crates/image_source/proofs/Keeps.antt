@@ -1,12 +1,10 @@
 -- What a source over bytes knows by what it keeps. Assumes nothing.
 use Rattle.std.proofs.Common.{◌≡◌, ℕ, zero, suc, ◌+◌, ◌^◌, ◌<◌, ◌≤◌, List, [], ◌∷◌, map, length, drop, set, Some, None, Ok, Err, Option, sym, refl, ap, ◌∙◌, subst, arith}
-use mathlib.Core.HLevel.{collapsible→set}
 use mathlib.Core.Logic.{∥∥₁_elim, ∥∥₁_map}
-use mathlib.Core.List.{isSet}
 use native.Mathlib.Bridge.{le_prop}
-use base.Stored.{Coded-set}
 use lib.ListN.{length-map}
 use lib.Seq.{map-set}
+use Rattle.std.specs.Coded.{Coded-set, coded_option}
 use Rattle.std.specs.Option.{option_map}
 use Rattle.std.specs.List.{slice_get}
 use Rattle.std.proofs.lemmas.Bool.{cond-true, cond-false, lt-ltb, le-ltb}
@@ -15,7 +13,6 @@ use Rattle.hir.specs.contracts.ids.IdentifierId as identifier
 use Rattle.hir.specs.Spans.{ident}
 use Rattle.reactive.specs.declared.row.RowHead.{RowHead}
 use Rattle.reactive.specs.contracts.row.RowHead as row_head
-use Rattle.reactive.specs.Codes.{listed}
 use Rattle.reactive.specs.Rows.{Row, at_place, head, upcoming, advanced, given, pick, operand_at, mark_at}
 use Rattle.image.specs.declared.cursor.Cursor.{Cursor}
 use Rattle.image.specs.declared.fault.SectionFault.{SectionFault}
@@ -30,20 +27,11 @@ use Rattle.image_source.specs.Standings.{list_of, see_standing, starting, opened
 use Rattle.image_source.specs.Sources.{image_reading}
 use Rattle.image_source.proofs.Moves.{starts, ends, faultless, Gives, gives, written}
 
-listed_once : {A : Type 0} (x y : Option A) → listed x ≡ listed y → x ≡ y
-listed_once None None e = refl
-listed_once None (Some y) e = absurd (let z : ◌≡◌ {A = ℕ} 0 1 = cc in omega arith)
-listed_once (Some x) None e = absurd (let z : ◌≡◌ {A = ℕ} 0 1 = cc in omega arith)
-listed_once (Some x) (Some y) e = let p : x ≡ y = cc in ap Some p
-
-option_set : {A : Type 0} → IsSet A → IsSet (Option A)
-option_set is-set = collapsible→set (λ x y p. listed_once x y (ap listed p)) (λ x y p q. ap (listed_once x y) (isSet is-set (listed x) (listed y) (ap listed p) (ap listed q)))
-
 head_set : IsSet (Option RowHead)
-head_set = option_set (Coded-set (row_head.the_row).coded)
+head_set = Coded-set (coded_option (row_head.the_row).coded)
 
 identifier_set : IsSet (Option IdentifierId)
-identifier_set = option_set (Coded-set (identifier.the_row).coded)
+identifier_set = Coded-set (coded_option (identifier.the_row).coded)
 
 picked : (f : Row → List IdentifierId) (o : Option Row) (i : ℕ) → slice_get (list_of f o) i ≡ pick f o i
 picked f None i = refl

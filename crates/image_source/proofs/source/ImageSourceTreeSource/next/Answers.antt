@@ -52,7 +52,7 @@ pub invariant_of-self-2 : goal.invariant_of-self-2
 invariant_of-self-2 c =
     let s = c.close_ended.new.self in
     let size : length s.behind ≡ 128 = omega arith in
-    (keeps_opened s size c.in-Ok.fields c.in-Ok.children c.in-Ok.after c.in-Ok.ensures.is, tt)
+    record { ok = keeps_opened s size c.in-Ok.fields c.in-Ok.children c.in-Ok.after c.in-Ok.ensures.is }
 
 pub returns : goal.returns
 returns c =

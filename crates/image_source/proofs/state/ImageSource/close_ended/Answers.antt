@@ -22,4 +22,4 @@ loop-rest-preserved c =
     )
 
 pub invariant_of-self : goal.invariant_of-self
-invariant_of-self c = (c.loop-rest.invariant.1, tt)
+invariant_of-self c = record { ok = c.loop-rest.invariant.1 }
