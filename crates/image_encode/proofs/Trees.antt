@@ -1,14 +1,12 @@
 -- Rows while they are written, and the trees that they become. Assumes nothing.
-use Rattle.std.proofs.Common.{◌≡◌, ℕ, zero, suc, ◌+◌, ◌*◌, ◌^◌, ◌<◌, ◌≤◌, min, Bool, true, false, ◌&&◌, ◌||◌, eqb, ltb, leb, ◌⊎◌, List, [], ◌∷◌, ◌++◌, map, length, sym, refl, ap, ◌∙◌, subst, inl, inr, append_assoc, append-nil, arith, length-append, ltb-true, eqb-true, leb-true}
-use Rattle.std.proofs.lemmas.Bool.{le-leb, lt-ltb, eq-eqb, ne_eqb}
+use Rattle.std.proofs.Common.{◌≡◌, ℕ, zero, suc, ◌+◌, ◌<◌, ◌≤◌, min, Bool, true, false, ◌&&◌, ◌||◌, eqb, ltb, leb, ◌⊎◌, List, [], ◌∷◌, ◌++◌, length, sym, refl, ap, ◌∙◌, subst, inl, inr, append_assoc, append-nil, arith, length-append, ltb-true, eqb-true, leb-true}
 use Rattle.reactive.specs.declared.row.RowHead.{RowHead}
 use Rattle.reactive.specs.Rows.{Row, head}
-use Rattle.image.specs.Bytes.{be, joined}
-use Rattle.image.specs.Layouts.{numbers}
+use Rattle.image.specs.Bytes.{joined}
 use Rattle.image.specs.Format.{Fields, fields, Tree, row}
 use Rattle.image_source.specs.Trees.{row_of, all_rows, tree_rows}
 use Rattle.image_encode.specs.Fields.{fields_of, fits_in}
-use Rattle.image_encode.specs.Opens.{Closed, ClosedTo, none, more, TooLong, fits_at}
+use Rattle.image_encode.specs.Opens.{Closed, ClosedTo, none, more, fits_at}
 use Rattle.image_encode.proofs.Opens.{fewer}
 use Rattle.image_encode.proofs.Fields.{and_first, and_second, row_back}
 
@@ -107,8 +105,8 @@ pub data Begun : List Row → List ℕ → List (List ℕ) → Type 0 where
 
 -- a row, and no row within it yet
 enter : {k n : ℕ} {rows : List Row} {top : List ℕ} {below : List (List ℕ)} → Partial k n rows top below → k < 128 → (r : Row) → r.depth ≡ k → fits_in r.code r.identifier r.number ≡ true → (m : ℕ) × Partial (suc k) m (rows ++ (r ∷ [])) (fields.write (fields_of r)) (below ++ (top ∷ []))
-enter {k} {zero} p low r at fits = let o = opened p in absurd (omega (arith, o.room))
-enter {k} {suc n} {rows} p low r at fits =
+enter {k = k} {n = zero} p low r at fits = let o = opened p in absurd (omega (arith, o.room))
+enter {k = k} {n = suc n} {rows = rows} p low r at fits =
     let is : row_of k (fields_of r) ≡ r = ap (λ d. row_of d (fields_of r)) (sym at) ∙ row_back r fits in
     (n, cast (ap (λ x. rows ++ (x ∷ [])) is) (append-nil (fields.write (fields_of r))) refl (inside p (fields_of r) []))
 
@@ -127,7 +125,7 @@ stands height h e =
       near = leb-true _ _ (and_first (leb h.depth height) _ a);
       low = ltb-true _ _ (and_second (leb h.depth height) _ a);
       alone = either (eqb height 0) refl (and_first (eqb height 0 || ltb 0 h.depth) _ b);
-      fits = and_second (eqb height 0 || ltb 0 h.depth) _ b
+      fits = and_second (eqb height 0 || ltb 0 h.depth) _ b;
     }
   where
     either : (c : Bool) → eqb height 0 ≡ c → c || ltb 0 h.depth ≡ true → (height ≡ 0) ⊎ (0 < h.depth)

@@ -1,5 +1,5 @@
 -- The fields that stand for a row. Assumes nothing.
-use Rattle.std.specs.Prelude.{ℕ, ◌^◌, ◌≤◌, Bool, true, cond, not, ◌&&◌, ◌||◌, ◌⊎◌, List, map, length, Some, None, Option, ◌==◌}
+use Rattle.std.specs.Prelude.{ℕ, ◌^◌, ◌≤◌, Bool, true, not, ◌&&◌, ◌||◌, ◌⊎◌, List, map, length, Some, None, Option, ◌==◌}
 use Rattle.hir.specs.declared.ids.IdentifierId.{IdentifierId}
 use Rattle.reactive.specs.declared.row.Number.{Number}
 use Rattle.reactive.specs.declared.row.Number.TheVariants as numbers

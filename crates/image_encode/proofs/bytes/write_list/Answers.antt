@@ -1,4 +1,4 @@
-use Rattle.std.proofs.Common.{◌++◌, length, get_or, vec_items, sym, ap, ◌∙◌, append_assoc}
+use Rattle.std.proofs.Common.{◌++◌, length, vec_items, ap, ◌∙◌, append_assoc}
 use Rattle.image.specs.Bytes.{be, joined}
 use Rattle.image_encode.proofs.Writings.{written_more, written_all}
 use Rattle.image_encode.proofs.bytes.write_list.Goals as goal

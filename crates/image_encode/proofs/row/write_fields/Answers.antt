@@ -1,5 +1,4 @@
-use Rattle.std.proofs.Common.{◌≡◌, ◌^◌, ◌≤◌, [], ◌∷◌, ◌++◌, map, length, vec_items, sym, ap, ◌∙◌, inl, inr, arith, rules}
-use Rattle.std.proofs.lemmas.Result.{IfOk-weaker}
+use Rattle.std.proofs.Common.{◌≡◌, [], ◌∷◌, ◌++◌, map, vec_items, ap, ◌∙◌}
 use Rattle.reactive.specs.Rows.{last_row}
 use Rattle.image.specs.Bytes.{be}
 use Rattle.image.specs.Layouts.{numbers}

@@ -1,4 +1,4 @@
-use Rattle.std.proofs.Common.{◌≡◌, ◌++◌, map, length, get_or, vec_items, sym, ap, ◌∙◌, append_assoc, arith, rules}
+use Rattle.std.proofs.Common.{◌≡◌, ◌++◌, map, length, vec_items, sym, ap, ◌∙◌, append_assoc, arith, rules}
 use Rattle.reactive.specs.Rows.{last_row, pick}
 use Rattle.image.specs.Bytes.{be, joined}
 use Rattle.image_encode.specs.Fields.{plain, list_in}

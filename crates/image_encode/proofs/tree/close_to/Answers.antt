@@ -1,5 +1,5 @@
-use Rattle.std.proofs.Common.{◌≡◌, suc, ◌<◌, min, map, length, vec_items, vec_len, refl, ap, ◌∙◌, arith, length-append, rules}
-use Rattle.image_encode.specs.Opens.{ClosedTo, none, more}
+use Rattle.std.proofs.Common.{◌≡◌, suc, ◌<◌, map, vec_items, vec_len, refl, arith, rules}
+use Rattle.image_encode.specs.Opens.{none, more}
 use Rattle.image_encode.proofs.Opens.{fewer, length_map}
 use Rattle.std.proofs.lemmas.Result.{err_from_is_err_and}
 use Rattle.image_encode.proofs.tree.close_to.Goals as goal
