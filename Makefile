@@ -9,7 +9,7 @@ run: kit
 	@rm -f crates/panel/build.log
 	@crates/panel/out/panel
 
-# Proves everything from nothing, tries the edits that must be refused, runs the programs and the tests.
+# Proves everything, tries the edits that must be refused, runs the programs and the tests.
 test: kit
 	@tools/gate
 

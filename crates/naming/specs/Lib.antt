@@ -1,4 +1,4 @@
--- The definitions that the contracts cite.
+-- The definitions that the contracts cite (Texts), and the lemmas behind the laws that the impls cite.
 pub mod Texts
 pub mod Laws
 pub mod LastDigits
