@@ -1,9 +1,8 @@
 -- A Leaf: the uses of its operands, and then its tags. Assumes nothing.
-use Rattle.std.proofs.Common.{◌≡◌, ◌++◌, map, sym, ap, ◌∙◌, subst}
-use Rattle.std.proofs.lemmas.Bool.{eq-eqb, cond-true}
+use Rattle.std.proofs.Common.{◌≡◌, true, ◌==◌, ◌++◌, map, sym, ap, ◌∙◌, subst}
+use Rattle.std.proofs.lemmas.Bool.{cond-true}
 use Rattle.hir.specs.Lists.{over}
-use Rattle.reactive.specs.declared.row.RowHead.{RowHead}
-use Rattle.reactive.specs.Rows.{Row, head}
+use Rattle.reactive.specs.Rows.{Row}
 use Rattle.walk.specs.Events.{Whole}
 use Rattle.walk.proofs.Acting.{ready_onward, over_onward}
 use Rattle.collect.specs.declared.promotable.CollectPromotable.{CollectPromotable}
@@ -15,9 +14,9 @@ module _ (r : Row) (w : Whole CollectPromotable) (ready : Ready w (leaf_acts r))
   ready_uses = splits.front w (map sees r.operands) _ ready
 
   -- where it is a JSX expression
-  module _ (q : RowHead) (e : q ≡ head r) (is : q.kind ≡ 15) (v : Whole CollectPromotable) (went : v ≡ over does w (map sees r.operands)) where
+  module _ (is : (r.kind == 15) ≡ true) (v : Whole CollectPromotable) (went : v ≡ over does w (map sees r.operands)) where
     leaf_acts_begin : leaf_acts r ≡ map sees r.operands ++ map flags r.marks
-    leaf_acts_begin = ap (λ xs. map sees r.operands ++ xs) (cond-true _ _ _ (eq-eqb _ _ (sym (ap (λ (x : RowHead). x.kind) e) ∙ is)))
+    leaf_acts_begin = ap (λ xs. map sees r.operands ++ xs) (cond-true _ _ _ is)
 
     pub ready_tags : Ready v (map flags r.marks)
     ready_tags = ready_onward does Ready splits w v _ _ (subst (Ready w) leaf_acts_begin ready) went

@@ -1,10 +1,10 @@
 // The first pass over a tree, which only notes in scratch what later passes name.
-ghost use Rattle.std.specs.Prelude.{◌≡◌, ◌+◌, ◌-◌, ◌^◌, ◌<◌, ◌≤◌, true, [], ◌∷◌, map, length, is_some};
+ghost use Rattle.std.specs.Prelude.{◌≡◌, ◌+◌, ◌-◌, ◌^◌, ◌<◌, ◌≤◌, [], ◌∷◌, map, length};
 ghost use Rattle.hir.specs.Environments.{model};
 ghost use Rattle.hir.specs.Lists.{over, Each};
 ghost use Rattle.hir.specs.Scratches.{tables, noted};
 ghost use Rattle.hir.specs.Sound.{Sound, Known};
-ghost use Rattle.reactive.specs.Rows.{rewound, head, given, last_row};
+ghost use Rattle.reactive.specs.Rows.{rewound};
 ghost use Rattle.walk.specs.Events.{whole, Shallow, acting};
 ghost use Rattle.collect.specs.Links.{Leads};
 ghost use Rattle.collect.specs.Promotable.{prunes, sees, flags, recorded_at, escapes_at, trail_row, with_trail, around, at, does, leaf_acts, acts, Ready, Readies, pass_acts, begun, collected};
@@ -14,13 +14,12 @@ use hir::environment::Environment;
 use hir::ids::{IdentifierId, ScopeId};
 use hir::scratch::{Scratch, Trail, Work};
 use reactive::code::Code;
+use reactive::given::GivenRow;
+use reactive::kind::Kind;
 use reactive::row::RowHead;
 use reactive::source::TreeSource;
 use walk::visitor::Visitor;
 use walk::walking::walk;
-
-// The kind of a Leaf that is a JSX expression.
-const JSX: u8 = 15;
 
 // The first pass.
 #[derive(Clone, Copy)]
@@ -64,7 +63,7 @@ impl CollectPromotable {
         requires low { self.innermost + 1 < 2 ^ 32 }
         ensures { tables env.now scratch.new ≡ recorded_at self.innermost (tables env.now scratch.old) id }
     {
-        let d = env.identifiers[id.0 as usize].declaration.0 as usize;
+        let d = env.declaration(id).0 as usize;
         let mut work = scratch.work[d];
         work.recorded = self.innermost + 1;
         work.escaped = false;
@@ -100,30 +99,25 @@ impl CollectPromotable {
         requires { Ready (whole self (tables env.now scratch.old)) (sees id ∷ []) }
         ensures { whole self (tables env.now scratch.new) ≡ does (whole self (tables env.now scratch.old)) (sees id) }
     {
-        let d = env.identifiers[id.0 as usize].declaration.0 as usize;
+        let d = env.declaration(id).0 as usize;
         let work = scratch.work[d];
         if self.escapes(scratch, work) {
             scratch.work[d].escaped = true;
         }
     }
 
-    // The operands of the row last given are used, in their order.
+    // The operands of a row are used, in their order.
     fn collect_promotable_operands<S: TreeSource>(
         self,
         env: &Environment,
         scratch: &mut Scratch,
-        row: &RowHead,
-        source: &S,
+        row: &GivenRow<S>,
     )
-        requires given { is_some (given (S.TreeSource.reading source.now)) ≡ true }
-        requires row { row.now ≡ head (last_row (S.TreeSource.reading source.now)) }
-        requires ready { Ready (whole self (tables env.now scratch.old)) (map sees (last_row (S.TreeSource.reading source.now)).operands) }
-        ensures { whole self (tables env.now scratch.new) ≡ over does (whole self (tables env.now scratch.old)) (map sees (last_row (S.TreeSource.reading source.now)).operands) }
+        requires { Ready (whole self (tables env.now scratch.old)) (map sees row.now.operands) }
+        ensures { whole self (tables env.now scratch.new) ≡ over does (whole self (tables env.now scratch.old)) (map sees row.now.operands) }
     {
-        for i in 0..row.operands {
-            if let Some(id) = source.operand(i) {
-                self.collect_promotable_place(env, scratch, id);
-            }
+        for id in row.operands() {
+            self.collect_promotable_place(env, scratch, id);
         }
     }
 
@@ -132,27 +126,22 @@ impl CollectPromotable {
         requires { Ready (whole self (tables env.now scratch.old)) (flags id ∷ []) }
         ensures { whole self (tables env.now scratch.new) ≡ does (whole self (tables env.now scratch.old)) (flags id) }
     {
-        let d = env.identifiers[id.0 as usize].declaration.0 as usize;
+        let d = env.declaration(id).0 as usize;
         scratch.work[d].tag = true;
     }
 
-    // The marks of the row last given are tags.
+    // The marks of a row are tags.
     fn collect_promotable_tags<S: TreeSource>(
         self,
         env: &Environment,
         scratch: &mut Scratch,
-        row: &RowHead,
-        source: &S,
+        row: &GivenRow<S>,
     )
-        requires given { is_some (given (S.TreeSource.reading source.now)) ≡ true }
-        requires row { row.now ≡ head (last_row (S.TreeSource.reading source.now)) }
-        requires ready { Ready (whole self (tables env.now scratch.old)) (map flags (last_row (S.TreeSource.reading source.now)).marks) }
-        ensures { whole self (tables env.now scratch.new) ≡ over does (whole self (tables env.now scratch.old)) (map flags (last_row (S.TreeSource.reading source.now)).marks) }
+        requires { Ready (whole self (tables env.now scratch.old)) (map flags row.now.marks) }
+        ensures { whole self (tables env.now scratch.new) ≡ over does (whole self (tables env.now scratch.old)) (map flags row.now.marks) }
     {
-        for i in 0..row.marks {
-            if let Some(id) = source.mark(i) {
-                self.collect_promotable_tag(env, scratch, id);
-            }
+        for id in row.marks() {
+            self.collect_promotable_tag(env, scratch, id);
         }
     }
 
@@ -161,17 +150,14 @@ impl CollectPromotable {
         self,
         env: &Environment,
         scratch: &mut Scratch,
-        row: &RowHead,
-        source: &S,
+        row: &GivenRow<S>,
     )
-        requires given { is_some (given (S.TreeSource.reading source.now)) ≡ true }
-        requires row { row.now ≡ head (last_row (S.TreeSource.reading source.now)) }
-        requires ready { Ready (whole self (tables env.now scratch.old)) (leaf_acts (last_row (S.TreeSource.reading source.now))) }
-        ensures { whole self (tables env.now scratch.new) ≡ over does (whole self (tables env.now scratch.old)) (leaf_acts (last_row (S.TreeSource.reading source.now))) }
+        requires { Ready (whole self (tables env.now scratch.old)) (leaf_acts row.now) }
+        ensures { whole self (tables env.now scratch.new) ≡ over does (whole self (tables env.now scratch.old)) (leaf_acts row.now) }
     {
-        self.collect_promotable_operands(env, scratch, row, source);
-        if row.kind == JSX {
-            self.collect_promotable_tags(env, scratch, row, source);
+        self.collect_promotable_operands(env, scratch, row);
+        if row.head().is_kind(Kind::JsxExpression) {
+            self.collect_promotable_tags(env, scratch, row);
         }
     }
 }
@@ -186,20 +172,20 @@ impl Visitor for CollectPromotable {
         env: &mut Environment,
         scratch: &mut Scratch,
         _parent: Option<RowHead>,
-        row: &RowHead,
-        source: &S,
+        row: &GivenRow<S>,
     ) {
-        if row.is(Code::Scope) {
-            if let Some(scope) = row.scope() {
+        let head = row.head();
+        if head.is(Code::Scope) {
+            if let Some(scope) = head.scope() {
                 self.open_scope(scratch, scope);
             }
-        } else if row.is(Code::Pruned) {
-            if let Some(scope) = row.scope() {
+        } else if head.is(Code::Pruned) {
+            if let Some(scope) = head.scope() {
                 self.record_pruned_scope(env, scratch, scope);
             }
-        } else if row.is(Code::Leaf) {
-            self.collect_promotable_instruction(env, scratch, row, source);
-        } else if let Some(id) = row.used() {
+        } else if head.is(Code::Leaf) {
+            self.collect_promotable_instruction(env, scratch, row);
+        } else if let Some(id) = head.used() {
             self.collect_promotable_place(env, scratch, id);
         }
     }

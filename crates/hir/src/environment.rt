@@ -1,6 +1,8 @@
-ghost use Rattle.std.specs.Prelude.{◌≡◌};
-ghost use Rattle.hir.specs.Environments.{model, fresh};
+ghost use Rattle.std.specs.Prelude.{◌≡◌, ◌==◌};
+ghost use Rattle.hir.specs.Environments.{model, fresh, declaration_of, tag_of};
+ghost use Rattle.hir.specs.Sound.{Known};
 
+use crate::ids::{DeclarationId, IdentifierId};
 use crate::tables::{Function, Identifier, JournalRow, Scope};
 
 // The tables that calls read and write, all lent, and how many journal rows are in use.
@@ -33,5 +35,21 @@ impl<'a> Environment<'a> {
             journal,
             count: 0,
         }
+    }
+
+    // The declaration of an identifier.
+    pub fn declaration(&self, id: IdentifierId) -> DeclarationId
+        requires { Known (model self.now) id }
+        ensures { result.0 ≡ declaration_of (model self.now) id.0 }
+    {
+        self.identifiers[id.0 as usize].declaration
+    }
+
+    // Whether an identifier has no name.
+    pub fn is_unnamed(&self, id: IdentifierId) -> bool
+        requires { Known (model self.now) id }
+        ensures { result ≡ (tag_of (model self.now) id.0 == 0) }
+    {
+        self.identifiers[id.0 as usize].tag == 0
     }
 }

@@ -1,10 +1,10 @@
-ghost use Rattle.std.specs.Prelude.{◌≡◌, ℕ, ◌<◌, true, map, length, is_some};
+ghost use Rattle.std.specs.Prelude.{◌≡◌, ℕ, ◌<◌, map, length};
 ghost use Rattle.hir.specs.Environments.{model};
 ghost use Rattle.hir.specs.Lists.{over, Each};
 ghost use Rattle.hir.specs.Scratches.{tables};
 ghost use Rattle.hir.specs.Sound.{Sound, Known, KnownIn, KnownFunction};
 ghost use Rattle.hir.specs.Spans.{identifiers_in};
-ghost use Rattle.reactive.specs.Rows.{Reading, rewound, head, given, last_row};
+ghost use Rattle.reactive.specs.Rows.{Reading, rewound};
 ghost use Rattle.walk.specs.Events.{Shallow, on_tables};
 ghost use Rattle.instances.specs.Instances.{promote_instance, does, Act, again, parameters, leaves, acts, Readies, Ready, pass_acts, promote_all_instances};
 
@@ -15,6 +15,7 @@ use hir::span::Span;
 use hir::tables::Reason;
 use promote::identifier::promote_identifier;
 use reactive::code::Code;
+use reactive::given::GivenRow;
 use reactive::row::RowHead;
 use reactive::source::TreeSource;
 use walk::visitor::Visitor;
@@ -26,8 +27,8 @@ fn promote_all_instances_place(env: &mut Environment, scratch: &mut Scratch, id:
     requires sound { Sound (tables env.old scratch.old) }
     ensures { tables env.new scratch.new ≡ promote_instance (tables env.old scratch.old) id }
 {
-    let identifier = env.identifiers[id.0 as usize];
-    if identifier.tag == 0 && scratch.work[identifier.declaration.0 as usize].promoted {
+    let d = env.declaration(id).0 as usize;
+    if env.is_unnamed(id) && scratch.work[d].promoted {
         promote_identifier(env, scratch, id, Reason::SameDeclaration);
     }
 }
@@ -59,22 +60,17 @@ fn promote_all_instances_scope_identifiers(
     promote_all_instances_list(env, scratch, scope.reassignments);
 }
 
-// The same for the operands of the row last given, in their order.
+// The same for the operands of a row, in their order.
 fn promote_all_instances_operands<S: TreeSource>(
     env: &mut Environment,
     scratch: &mut Scratch,
-    row: &RowHead,
-    source: &S,
+    row: &GivenRow<S>,
 )
-    requires given { is_some (given (S.TreeSource.reading source.now)) ≡ true }
-    requires row { row.now ≡ head (last_row (S.TreeSource.reading source.now)) }
-    requires ready { Ready (tables env.old scratch.old) (map again (last_row (S.TreeSource.reading source.now)).operands) }
-    ensures { tables env.new scratch.new ≡ over does (tables env.old scratch.old) (map again (last_row (S.TreeSource.reading source.now)).operands) }
+    requires { Ready (tables env.old scratch.old) (map again row.now.operands) }
+    ensures { tables env.new scratch.new ≡ over does (tables env.old scratch.old) (map again row.now.operands) }
 {
-    for i in 0..row.operands {
-        if let Some(id) = source.operand(i) {
-            promote_all_instances_place(env, scratch, id);
-        }
+    for id in row.operands() {
+        promote_all_instances_place(env, scratch, id);
     }
 }
 
@@ -102,15 +98,15 @@ impl Visitor for PromoteAllInstances {
         env: &mut Environment,
         scratch: &mut Scratch,
         _parent: Option<RowHead>,
-        row: &RowHead,
-        source: &S,
+        row: &GivenRow<S>,
     ) {
-        if row.is(Code::Leaf) {
-            promote_all_instances_operands(env, scratch, row, source);
-            if let Some(function) = row.function() {
+        let head = row.head();
+        if head.is(Code::Leaf) {
+            promote_all_instances_operands(env, scratch, row);
+            if let Some(function) = head.function() {
                 promote_all_instances_function(env, scratch, function);
             }
-        } else if let Some(id) = row.identifier {
+        } else if let Some(id) = head.identifier {
             promote_all_instances_place(env, scratch, id);
         }
     }

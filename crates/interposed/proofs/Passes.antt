@@ -1,5 +1,5 @@
 -- What the third pass keeps. Assumes nothing.
-use Rattle.std.proofs.Common.{◌≡◌, ℕ, ◌+◌, ◌≤◌, Bool, true, cond, eqb, leb, List, [], ◌∷◌, ◌++◌, map, length, Some, None, Option, sym, refl, ap, ◌∙◌, subst, ⊎_elim, arith, length-set}
+use Rattle.std.proofs.Common.{◌≡◌, ℕ, ◌+◌, ◌≤◌, Bool, true, false, cond, eqb, leb, List, [], ◌∷◌, ◌++◌, map, length, Some, None, Option, sym, refl, ap, ◌∙◌, subst, ⊎_elim, arith, length-set}
 use Rattle.std.proofs.lemmas.Bool.{and_parts, cases_Bool, cond_both, cond-true, cond-false, ne_eqb}
 use Rattle.hir.specs.declared.ids.IdentifierId.{IdentifierId}
 use Rattle.hir.specs.declared.scratch.Work.{Work}
@@ -106,9 +106,9 @@ map_map f g [] = refl
 map_map f g (x ∷ xs) = ap (λ ys. f (g x) ∷ ys) (map_map f g xs)
 
 -- the acts of a load where the first mark is known
-pub value_mark : (k : ℕ) (l mark : IdentifierId) (o : Option IdentifierId) (ms rest : List IdentifierId) → o ≡ Some l → (k ≡ 28 → ⊥) → ms ≡ mark ∷ rest → value_acts k o ms ≡ mark_acts k l mark
+pub value_mark : (k : ℕ) (l mark : IdentifierId) (o : Option IdentifierId) (ms rest : List IdentifierId) → o ≡ Some l → is_global_load k ≡ false → ms ≡ mark ∷ rest → value_acts k o ms ≡ mark_acts k l mark
 value_mark k l mark o ms rest e ne has =
-    (λ i. value_acts k (e i) (has i)) ∙ cond-false _ _ _ (ne_eqb k 28 ne)
+    (λ i. value_acts k (e i) (has i)) ∙ cond-false _ _ _ ne
 
 -- a Leaf in its four parts
 module _ (l : Option IdentifierId) (k mode : ℕ) (ms os : List IdentifierId) (w : State) (ready : Ready w (leaf_acts l k mode ms os)) where

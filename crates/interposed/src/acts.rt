@@ -21,10 +21,9 @@ impl PromoteInterposed {
         requires { Ready (whole self.now (tables env.old scratch.old)) (uses id ∷ []) }
         ensures { whole self.now (tables env.new scratch.new) ≡ does (whole self.now (tables env.old scratch.old)) (uses id) }
     {
-        let i = id.0 as usize;
-        let work = scratch.work[i];
+        let work = scratch.work[id.0 as usize];
         let exposed = 0 < work.tracked && work.tracked < self.epoch;
-        if env.identifiers[i].tag == 0 && !work.constant && exposed {
+        if env.is_unnamed(id) && !work.constant && exposed {
             promote_identifier(env, scratch, id, Reason::Interposed);
         }
     }
@@ -48,8 +47,8 @@ impl PromoteInterposed {
         requires { Ready (whole self.now (tables env.now scratch.old)) (loads lvalue from ∷ []) }
         ensures { whole self.now (tables env.now scratch.new) ≡ does (whole self.now (tables env.now scratch.old)) (loads lvalue from) }
     {
-        let i = lvalue.0 as usize;
-        if env.identifiers[i].tag == 0 {
+        if env.is_unnamed(lvalue) {
+            let i = lvalue.0 as usize;
             let mut work = scratch.work[i];
             work.constant = work.constant || scratch.work[from.0 as usize].constant;
             work.tracked = self.epoch;
@@ -73,7 +72,7 @@ impl PromoteInterposed {
         let mut work = scratch.work[i];
         work.global = work.global || global;
         work.constant = work.constant || global;
-        if env.identifiers[i].tag == 0 {
+        if env.is_unnamed(lvalue) {
             work.tracked = self.epoch;
         }
         scratch.work[i] = work;
@@ -93,7 +92,7 @@ impl PromoteInterposed {
         ensures { whole self.new (tables env.now scratch.now) ≡ does (whole self.old (tables env.now scratch.now)) (barrier lvalue) }
     {
         if let Some(l) = lvalue {
-            if env.identifiers[l.0 as usize].tag == 0 {
+            if env.is_unnamed(l) {
                 return;
             }
         }
@@ -105,9 +104,8 @@ impl PromoteInterposed {
         requires { Ready (whole self.now (tables env.now scratch.old)) (tracks lvalue ∷ []) }
         ensures { whole self.now (tables env.now scratch.new) ≡ does (whole self.now (tables env.now scratch.old)) (tracks lvalue) }
     {
-        let i = lvalue.0 as usize;
-        if env.identifiers[i].tag == 0 {
-            scratch.work[i].tracked = self.epoch;
+        if env.is_unnamed(lvalue) {
+            scratch.work[lvalue.0 as usize].tracked = self.epoch;
         }
     }
 }

@@ -1,62 +1,50 @@
-ghost use Rattle.std.specs.Prelude.{◌≡◌, true, map, is_some};
+ghost use Rattle.std.specs.Prelude.{◌≡◌, map};
 ghost use Rattle.hir.specs.Lists.{over, Each};
 ghost use Rattle.hir.specs.Scratches.{tables};
 ghost use Rattle.hir.specs.Spans.{identifiers_in};
-ghost use Rattle.reactive.specs.Rows.{Reading, rewound, head, given, last_row};
+ghost use Rattle.reactive.specs.Kinds.{kind_number};
+ghost use Rattle.reactive.specs.Rows.{Reading, rewound};
 ghost use Rattle.walk.specs.Events.{whole, acting, Shallow};
 ghost use Rattle.interposed.specs.Acts.{Act, uses, fixes, does, Ready};
 ghost use Rattle.interposed.specs.Interposed.{fix_acts, mark_acts, value_acts, end_acts, leaf_acts, instruction_in, acts, Readies, begun, pass_acts, promote_interposed};
 
 use crate::acts::PromoteInterposed;
-use crate::kinds::{LOAD_GLOBAL, fixes_marks, is_barrier, is_load, is_property_load, may_raise};
+use crate::kinds::{fixes_marks, is_barrier, is_global_load, may_raise};
 use hir::environment::Environment;
 use hir::ids::IdentifierId;
 use hir::scratch::Scratch;
 use hir::span::Span;
 use reactive::code::Code;
+use reactive::given::GivenRow;
+use reactive::kind::Kind;
 use reactive::row::RowHead;
 use reactive::source::TreeSource;
 use walk::visitor::Visitor;
 use walk::walking::walk;
 
 impl PromoteInterposed {
-    // The marks of the row last given become constant.
-    fn fix_marks<S: TreeSource>(
-        &self,
-        env: &Environment,
-        scratch: &mut Scratch,
-        row: &RowHead,
-        source: &S,
-    )
-        requires given { is_some (given (S.TreeSource.reading source.now)) ≡ true }
-        requires row { row.now ≡ head (last_row (S.TreeSource.reading source.now)) }
-        requires ready { Ready (whole self.now (tables env.now scratch.old)) (map fixes (last_row (S.TreeSource.reading source.now)).marks) }
-        ensures { whole self.now (tables env.now scratch.new) ≡ over does (whole self.now (tables env.now scratch.old)) (map fixes (last_row (S.TreeSource.reading source.now)).marks) }
+    // The marks of a row become constant.
+    fn fix_marks<S: TreeSource>(&self, env: &Environment, scratch: &mut Scratch, row: &GivenRow<S>)
+        requires { Ready (whole self.now (tables env.now scratch.old)) (map fixes row.now.marks) }
+        ensures { whole self.now (tables env.now scratch.new) ≡ over does (whole self.now (tables env.now scratch.old)) (map fixes row.now.marks) }
     {
-        for i in 0..row.marks {
-            if let Some(id) = source.mark(i) {
-                self.fix(env, scratch, id);
-            }
+        for id in row.marks() {
+            self.fix(env, scratch, id);
         }
     }
 
-    // The operands of the row last given are used, in their order.
+    // The operands of a row are used, in their order.
     fn use_operands<S: TreeSource>(
         &self,
         env: &mut Environment,
         scratch: &mut Scratch,
-        row: &RowHead,
-        source: &S,
+        row: &GivenRow<S>,
     )
-        requires given { is_some (given (S.TreeSource.reading source.now)) ≡ true }
-        requires row { row.now ≡ head (last_row (S.TreeSource.reading source.now)) }
-        requires ready { Ready (whole self.now (tables env.old scratch.old)) (map uses (last_row (S.TreeSource.reading source.now)).operands) }
-        ensures { whole self.now (tables env.new scratch.new) ≡ over does (whole self.now (tables env.old scratch.old)) (map uses (last_row (S.TreeSource.reading source.now)).operands) }
+        requires { Ready (whole self.now (tables env.old scratch.old)) (map uses row.now.operands) }
+        ensures { whole self.now (tables env.new scratch.new) ≡ over does (whole self.now (tables env.old scratch.old)) (map uses row.now.operands) }
     {
-        for i in 0..row.operands {
-            if let Some(id) = source.operand(i) {
-                self.use_place(env, scratch, id);
-            }
+        for id in row.operands() {
+            self.use_place(env, scratch, id);
         }
     }
 
@@ -65,16 +53,15 @@ impl PromoteInterposed {
         &self,
         env: &Environment,
         scratch: &mut Scratch,
-        row: &RowHead,
-        source: &S,
+        kind: Kind,
+        mode: u8,
+        row: &GivenRow<S>,
     )
-        requires given { is_some (given (S.TreeSource.reading source.now)) ≡ true }
-        requires row { row.now ≡ head (last_row (S.TreeSource.reading source.now)) }
-        requires ready { Ready (whole self.now (tables env.now scratch.old)) (fix_acts row.now.kind row.now.mode (last_row (S.TreeSource.reading source.now)).marks) }
-        ensures { whole self.now (tables env.now scratch.new) ≡ over does (whole self.now (tables env.now scratch.old)) (fix_acts row.now.kind row.now.mode (last_row (S.TreeSource.reading source.now)).marks) }
+        requires { Ready (whole self.now (tables env.now scratch.old)) (fix_acts (kind_number kind) mode row.now.marks) }
+        ensures { whole self.now (tables env.now scratch.new) ≡ over does (whole self.now (tables env.now scratch.old)) (fix_acts (kind_number kind) mode row.now.marks) }
     {
-        if fixes_marks(row.kind, row.mode) {
-            self.fix_marks(env, scratch, row, source);
+        if fixes_marks(kind, mode) {
+            self.fix_marks(env, scratch, row);
         }
     }
 
@@ -84,16 +71,18 @@ impl PromoteInterposed {
         env: &Environment,
         scratch: &mut Scratch,
         lvalue: IdentifierId,
-        kind: u8,
+        kind: Kind,
         mark: IdentifierId,
     )
-        requires { Ready (whole self.now (tables env.now scratch.old)) (mark_acts kind lvalue mark) }
-        ensures { whole self.now (tables env.now scratch.new) ≡ over does (whole self.now (tables env.now scratch.old)) (mark_acts kind lvalue mark) }
+        requires { Ready (whole self.now (tables env.now scratch.old)) (mark_acts (kind_number kind) lvalue mark) }
+        ensures { whole self.now (tables env.now scratch.new) ≡ over does (whole self.now (tables env.now scratch.old)) (mark_acts (kind_number kind) lvalue mark) }
     {
-        if is_load(kind) {
-            self.load(env, scratch, lvalue, mark);
-        } else if is_property_load(kind) {
-            self.load_property(env, scratch, lvalue, mark);
+        match kind {
+            Kind::LoadLocal | Kind::LoadContext => self.load(env, scratch, lvalue, mark),
+            Kind::PropertyLoad | Kind::ComputedLoad => {
+                self.load_property(env, scratch, lvalue, mark);
+            }
+            _ => {}
         }
     }
 
@@ -103,19 +92,18 @@ impl PromoteInterposed {
         env: &Environment,
         scratch: &mut Scratch,
         lvalue: Option<IdentifierId>,
-        kind: u8,
-        source: &S,
+        kind: Kind,
+        row: &GivenRow<S>,
     )
-        requires given { is_some (given (S.TreeSource.reading source.now)) ≡ true }
-        requires ready { Ready (whole self.now (tables env.now scratch.old)) (value_acts kind lvalue (last_row (S.TreeSource.reading source.now)).marks) }
-        ensures { whole self.now (tables env.now scratch.new) ≡ over does (whole self.now (tables env.now scratch.old)) (value_acts kind lvalue (last_row (S.TreeSource.reading source.now)).marks) }
+        requires { Ready (whole self.now (tables env.now scratch.old)) (value_acts (kind_number kind) lvalue row.now.marks) }
+        ensures { whole self.now (tables env.now scratch.new) ≡ over does (whole self.now (tables env.now scratch.old)) (value_acts (kind_number kind) lvalue row.now.marks) }
     {
         let Some(l) = lvalue else {
             return;
         };
-        if kind == LOAD_GLOBAL {
+        if is_global_load(kind) {
             self.load_global(env, scratch, l);
-        } else if let Some(mark) = source.mark(0) {
+        } else if let Some(mark) = row.marks().next() {
             self.load_mark(env, scratch, l, kind, mark);
         }
     }
@@ -126,11 +114,11 @@ impl PromoteInterposed {
         env: &Environment,
         scratch: &mut Scratch,
         lvalue: Option<IdentifierId>,
-        kind: u8,
+        kind: Kind,
         mode: u8,
     )
-        requires { Ready (whole self.old (tables env.now scratch.old)) (end_acts kind mode lvalue) }
-        ensures { whole self.new (tables env.now scratch.new) ≡ over does (whole self.old (tables env.now scratch.old)) (end_acts kind mode lvalue) }
+        requires { Ready (whole self.old (tables env.now scratch.old)) (end_acts (kind_number kind) mode lvalue) }
+        ensures { whole self.new (tables env.now scratch.new) ≡ over does (whole self.old (tables env.now scratch.old)) (end_acts (kind_number kind) mode lvalue) }
     {
         if may_raise(kind, mode) {
             self.raise(env, scratch, lvalue);
@@ -148,18 +136,19 @@ impl PromoteInterposed {
         env: &mut Environment,
         scratch: &mut Scratch,
         lvalue: Option<IdentifierId>,
-        row: &RowHead,
-        source: &S,
+        row: &GivenRow<S>,
     )
-        requires given { is_some (given (S.TreeSource.reading source.now)) ≡ true }
-        requires row { row.now ≡ head (last_row (S.TreeSource.reading source.now)) }
-        requires ready { Ready (whole self.old (tables env.old scratch.old)) (leaf_acts lvalue row.now.kind row.now.mode (last_row (S.TreeSource.reading source.now)).marks (last_row (S.TreeSource.reading source.now)).operands) }
-        ensures { whole self.new (tables env.new scratch.new) ≡ over does (whole self.old (tables env.old scratch.old)) (leaf_acts lvalue row.now.kind row.now.mode (last_row (S.TreeSource.reading source.now)).marks (last_row (S.TreeSource.reading source.now)).operands) }
+        requires { Ready (whole self.old (tables env.old scratch.old)) (leaf_acts lvalue row.now.kind row.now.mode row.now.marks row.now.operands) }
+        ensures { whole self.new (tables env.new scratch.new) ≡ over does (whole self.old (tables env.old scratch.old)) (leaf_acts lvalue row.now.kind row.now.mode row.now.marks row.now.operands) }
     {
-        self.begin_leaf(env, scratch, row, source);
-        self.load_value(env, scratch, lvalue, row.kind, source);
-        self.use_operands(env, scratch, row, source);
-        self.end_leaf(env, scratch, lvalue, row.kind, row.mode);
+        let head = row.head();
+        let Ok(kind) = Kind::try_from(head.kind) else {
+            return self.use_operands(env, scratch, row);
+        };
+        self.begin_leaf(env, scratch, kind, head.mode, row);
+        self.load_value(env, scratch, lvalue, kind, row);
+        self.use_operands(env, scratch, row);
+        self.end_leaf(env, scratch, lvalue, kind, head.mode);
     }
 }
 
@@ -167,10 +156,7 @@ impl PromoteInterposed {
 fn as_instruction(parent: Option<RowHead>) -> Option<RowHead>
     ensures { result ≡ instruction_in parent }
 {
-    match parent {
-        Some(row) if row.is(Code::Instruction) => Some(row),
-        _ => None,
-    }
+    parent.filter(|row| row.is(Code::Instruction))
 }
 
 impl Visitor for PromoteInterposed {
@@ -183,21 +169,20 @@ impl Visitor for PromoteInterposed {
         env: &mut Environment,
         scratch: &mut Scratch,
         parent: Option<RowHead>,
-        row: &RowHead,
-        source: &S,
+        row: &GivenRow<S>,
     ) {
-        if row.is(Code::Leaf) {
+        let head = row.head();
+        if head.is(Code::Leaf) {
             match as_instruction(parent) {
                 Some(instruction) => self.promote_interposed_instruction(
                     env,
                     scratch,
                     instruction.identifier,
                     row,
-                    source,
                 ),
-                None => self.use_operands(env, scratch, row, source),
+                None => self.use_operands(env, scratch, row),
             }
-        } else if let Some(id) = row.used() {
+        } else if let Some(id) = head.used() {
             self.use_place(env, scratch, id);
         }
     }

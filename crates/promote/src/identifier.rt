@@ -24,11 +24,10 @@ pub fn promote_identifier(
     requires sound { Sound (tables env.old scratch.old) }
     ensures { tables env.new scratch.new ≡ promoted reason (tables env.old scratch.old) id }
 {
-    let i = id.0 as usize;
-    let d = env.identifiers[i].declaration.0 as usize;
+    let d = env.declaration(id).0 as usize;
     let tag = if scratch.work[d].tag { 3 } else { 2 };
     scratch.work[d].promoted = true;
-    env.identifiers[i].tag = tag;
+    env.identifiers[id.0 as usize].tag = tag;
     env.journal[env.count] = JournalRow {
         identifier: id,
         reason,
@@ -47,7 +46,7 @@ pub fn promote_unnamed(
     requires sound { Sound (tables env.old scratch.old) }
     ensures { tables env.new scratch.new ≡ promote_unnamed reason (tables env.old scratch.old) id }
 {
-    if env.identifiers[id.0 as usize].tag == 0 {
+    if env.is_unnamed(id) {
         promote_identifier(env, scratch, id, reason);
     }
 }

@@ -15,6 +15,7 @@ use hir::scratch::Scratch;
 use hir::span::Span;
 use hir::tables::Reason;
 use reactive::code::Code;
+use reactive::given::GivenRow;
 use reactive::row::{Number, RowHead};
 use reactive::source::TreeSource;
 use walk::visitor::Visitor;
@@ -26,8 +27,8 @@ fn promote_escaped(env: &mut Environment, scratch: &mut Scratch, id: IdentifierI
     requires sound { Sound (tables env.old scratch.old) }
     ensures { tables env.new scratch.new ≡ promote_escaped (tables env.old scratch.old) id }
 {
-    let identifier = env.identifiers[id.0 as usize];
-    if identifier.tag == 0 && scratch.work[identifier.declaration.0 as usize].escaped {
+    let d = env.declaration(id).0 as usize;
+    if env.is_unnamed(id) && scratch.work[d].escaped {
         promote_identifier(env, scratch, id, Reason::Escape);
     }
 }
@@ -96,9 +97,9 @@ impl Visitor for PromoteTemporaries {
         env: &mut Environment,
         scratch: &mut Scratch,
         _parent: Option<RowHead>,
-        row: &RowHead,
-        _source: &S,
+        row: &GivenRow<S>,
     ) {
+        let row = row.head();
         match row.number {
             Some(Number::Scope(scope)) => {
                 if row.is(Code::Scope) {

@@ -1,3 +1,4 @@
 pub mod Places
 pub mod Steps
 pub mod Lists
+pub mod Decoding

@@ -1,5 +1,5 @@
 -- The lists of the row last given, one element after another. Assumes nothing.
-use Rattle.std.proofs.Common.{◌≡◌, ℕ, ◌+◌, ◌<◌, Bool, true, false, List, ◌∷◌, length, drop, is_some, Some, None, Option, unwrap_or, sym, refl, ap, ◌∙◌, add-one, arith}
+use Rattle.std.proofs.Common.{◌≡◌, ℕ, ◌+◌, ◌<◌, Bool, true, false, List, [], ◌∷◌, length, drop, is_some, Some, None, Option, MatchOption, unwrap_or, sym, refl, ap, ◌∙◌, add-one, arith}
 use Rattle.std.specs.List.{slice_get}
 use Rattle.hir.specs.declared.ids.IdentifierId.{IdentifierId}
 use Rattle.reactive.specs.Rows.{Row, Reading, given, pick, last_row, no_row}
@@ -21,3 +21,8 @@ module _ (f : Row → List IdentifierId) (s : Reading) (i : ℕ) (some : is_some
   found_within n size low e =
       let h = none_place (f (last_row s)) i (sym (picked f (given s) i some) ∙ e) in
       omega arith
+
+  -- within the list the element found is the first of those from there on
+  pub first_found : (n : ℕ) → n ≡ length (f (last_row s)) → i < n → (o : Option IdentifierId) → o ≡ pick f (given s) i → MatchOption o ((drop i (f (last_row s)) ≡ []) × (drop (i + 1) (f (last_row s)) ≡ [])) (λ id. drop i (f (last_row s)) ≡ id ∷ drop (i + 1) (f (last_row s)))
+  first_found n size low None e = absurd (found_within n size low (sym e))
+  first_found n size low (Some id) e = found_here id e

@@ -2,5 +2,7 @@ pub mod Codes
 pub mod Numbers
 pub mod Rows
 pub mod Tables
-pub mod Eithers
 pub mod Sound
+pub mod Kinds
+pub mod Bytes
+pub mod Given

@@ -1,5 +1,11 @@
 // The codes of rows.
-#[derive(Clone, Copy)]
+ghost use Rattle.reactive.specs.Codes.{code_number};
+ghost use Rattle.reactive.specs.Bytes.{Decodes};
+
+use crate::unknown::Unknown;
+
+// What a row is.
+#[derive(Clone, Copy, Debug, PartialEq, Eq)]
 pub enum Code {
     Block = 1,
     Instruction = 2,
@@ -25,4 +31,40 @@ pub enum Code {
     Label = 22,
     Try = 23,
     Handler = 24,
+}
+
+impl TryFrom<u8> for Code {
+    type Error = Unknown;
+
+    ghost try_from_gives = { Decodes code_number };
+
+    fn try_from(byte: u8) -> Result<Code, Unknown> {
+        match byte {
+            1 => Ok(Code::Block),
+            2 => Ok(Code::Instruction),
+            3 => Ok(Code::Scope),
+            4 => Ok(Code::Pruned),
+            5 => Ok(Code::Leaf),
+            6 => Ok(Code::Logical),
+            7 => Ok(Code::Conditional),
+            8 => Ok(Code::Sequence),
+            9 => Ok(Code::Optional),
+            10 => Ok(Code::Break),
+            11 => Ok(Code::Continue),
+            12 => Ok(Code::Return),
+            13 => Ok(Code::Throw),
+            14 => Ok(Code::Switch),
+            15 => Ok(Code::Case),
+            16 => Ok(Code::DoWhile),
+            17 => Ok(Code::While),
+            18 => Ok(Code::For),
+            19 => Ok(Code::ForOf),
+            20 => Ok(Code::ForIn),
+            21 => Ok(Code::If),
+            22 => Ok(Code::Label),
+            23 => Ok(Code::Try),
+            24 => Ok(Code::Handler),
+            _ => Err(Unknown(byte)),
+        }
+    }
 }

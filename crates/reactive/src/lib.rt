@@ -2,7 +2,11 @@
 #![tactic(auto)]
 
 pub mod code;
-pub mod either;
+pub mod given;
+pub mod kind;
+pub mod mixed;
+pub mod mode;
 pub mod row;
 pub mod source;
 pub mod table;
+pub mod unknown;

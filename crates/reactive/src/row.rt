@@ -1,8 +1,10 @@
 ghost use Rattle.std.specs.Prelude.{◌≡◌, ◌==◌};
 ghost use Rattle.reactive.specs.Codes.{code_number, used_in};
+ghost use Rattle.reactive.specs.Kinds.{kind_number};
 ghost use Rattle.reactive.specs.Numbers.{scope_in, function_in};
 
 use crate::code::Code;
+use crate::kind::Kind;
 use hir::ids::{FunctionId, IdentifierId, ScopeId};
 
 // The number of a row: its scope, or the function that it names.
@@ -13,7 +15,7 @@ pub enum Number {
 }
 
 // A row without its two lists, of which it has the lengths. Its bytes are unchecked.
-#[derive(Clone, Copy)]
+#[derive(Clone, Copy, Default)]
 pub struct RowHead {
     pub depth: u32,
     pub code: u8,
@@ -33,12 +35,20 @@ impl RowHead {
         self.code == code as u8
     }
 
+    // Whether the row has this kind.
+    pub fn is_kind(&self, kind: Kind) -> bool
+        ensures { result ≡ (self.now.kind == kind_number kind) }
+    {
+        self.kind == kind as u8
+    }
+
     // The identifier, where the row uses it: in a Return, a Throw, a Switch, a Case, an If or a Handler.
     pub fn used(&self) -> Option<IdentifierId>
         ensures { result ≡ used_in self.now.code self.now.identifier }
     {
-        match self.code {
-            12..=15 | 21 | 24 => self.identifier,
+        match Code::try_from(self.code) {
+            Ok(Code::Return | Code::Throw | Code::Switch | Code::Case | Code::If | Code::Handler) =>
+                self.identifier,
             _ => None,
         }
     }

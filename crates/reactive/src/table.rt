@@ -43,12 +43,7 @@ impl RowEntry {
 fn identifier_at(pool: &[u32], span: Span, i: usize) -> Option<IdentifierId>
     ensures { result ≡ slice_get (identifiers_in pool.now span) i }
 {
-    let list = span.of(pool);
-    if i < list.len() {
-        Some(IdentifierId(list[i]))
-    } else {
-        None
-    }
+    span.of(pool).get(i).map(|n| IdentifierId(*n))
 }
 
 // A table of rows whose lists are spans of a pool, cut at the pool's end.
@@ -75,10 +70,7 @@ impl<'a> TableSource<'a> {
     fn given(&self) -> Option<RowEntry>
         ensures { result ≡ before self.now.rows.now self.now.position }
     {
-        if self.position == 0 || self.position > self.rows.len() {
-            return None;
-        }
-        Some(self.rows[self.position - 1])
+        self.rows.get(self.position.checked_sub(1)?).copied()
     }
 }
 
@@ -90,25 +82,16 @@ impl<'a> TreeSource for TableSource<'a> {
     }
 
     fn next(&mut self) -> Option<RowHead> {
-        if self.position >= self.rows.len() {
-            return None;
-        }
-        let entry = self.rows[self.position];
+        let entry = self.rows.get(self.position)?;
         self.position += 1;
         Some(entry.head(self.pool))
     }
 
     fn operand(&self, i: usize) -> Option<IdentifierId> {
-        match self.given() {
-            Some(entry) => identifier_at(self.pool, entry.operands, i),
-            None => None,
-        }
+        identifier_at(self.pool, self.given()?.operands, i)
     }
 
     fn mark(&self, i: usize) -> Option<IdentifierId> {
-        match self.given() {
-            Some(entry) => identifier_at(self.pool, entry.marks, i),
-            None => None,
-        }
+        identifier_at(self.pool, self.given()?.marks, i)
     }
 }

@@ -33,29 +33,29 @@ module _ {W A : Type 0} (does : W → A → W) (Ready : W → List A → Type 0)
     acting_allowed (e ∷ es) w r =
         (splits.front w (acts e) (acts_of acts es) r, acting_allowed es (over does w (acts e)) (ready_over w (acts e) (acts_of acts es) r))
 
-  -- i elements of a list had their act
-  pub record Doing {X : Type 0} (f : X → A) (start at : W) (xs : List X) (i : ℕ) : Type 0 where
-    pub same : over does start (map f xs) ≡ over does at (map f (drop i xs))
-    pub ready : Ready at (map f (drop i xs))
+  -- the elements of a list before `rest` had their act
+  pub record Doing {X : Type 0} (f : X → A) (start at : W) (xs rest : List X) : Type 0 where
+    pub same : over does start (map f xs) ≡ over does at (map f rest)
+    pub ready : Ready at (map f rest)
 
-  pub doing_none : {X : Type 0} (f : X → A) (start : W) (xs : List X) → Ready start (map f xs) → Doing f start start xs 0
+  pub doing_none : {X : Type 0} (f : X → A) (start : W) (xs : List X) → Ready start (map f xs) → Doing f start start xs xs
   doing_none f start xs r = record { same = refl; ready = r }
 
-  module _ {X : Type 0} (f : X → A) (start at : W) (xs : List X) (i : ℕ) (x : X) (inv : Doing f start at xs i) (here : drop i xs ≡ x ∷ drop (i + 1) xs) where
-    pub doing_ready : Ready at (f x ∷ map f (drop (i + 1) xs))
+  module _ {X : Type 0} (f : X → A) (start at : W) (xs rest : List X) (x : X) (more : List X) (inv : Doing f start at xs rest) (here : rest ≡ x ∷ more) where
+    pub doing_ready : Ready at (f x ∷ map f more)
     doing_ready = let P : List X → Type 0 = λ ys. Ready at (map f ys) in subst P here inv.ready
 
     -- what one act alone needs
     pub doing_one : Ready at (f x ∷ [])
     doing_one = splits.front at (f x ∷ []) _ doing_ready
 
-    pub doing_more : (on : W) → on ≡ does at (f x) → Doing f start on xs (i + 1)
+    pub doing_more : (on : W) → on ≡ does at (f x) → Doing f start on xs more
     doing_more on e =
-        let P : W → Type 0 = λ w. Doing f start w xs (i + 1) in
+        let P : W → Type 0 = λ w. Doing f start w xs more in
         subst P (sym e) (record { same = inv.same ∙ ap (λ ys. over does at (map f ys)) here; ready = splits.back at (f x) _ doing_ready })
 
-  pub doing_all : {X : Type 0} (f : X → A) (start at : W) (xs : List X) (i : ℕ) → Doing f start at xs i → length xs ≤ i → at ≡ over does start (map f xs)
-  doing_all f start at xs i inv past = sym (inv.same ∙ ap (λ ys. over does at (map f ys)) (drop_all i xs past))
+  pub doing_all : {X : Type 0} (f : X → A) (start at : W) (xs rest : List X) → Doing f start at xs rest → rest ≡ [] → at ≡ over does start (map f xs)
+  doing_all f start at xs rest inv past = sym (inv.same ∙ ap (λ ys. over does at (map f ys)) past)
 
 -- the element of a slice at a place, and those after it
 pub slice_here : {X : Type 0} (xs : List X) (i : ℕ) (d : X) → i < length xs → drop i xs ≡ get_or xs i d ∷ drop (i + 1) xs

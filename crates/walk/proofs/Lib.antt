@@ -1,4 +1,4 @@
-pub mod Standing
+pub mod Opened
 pub mod Rows
 pub mod Acting
 pub mod Fitting

@@ -1,11 +1,10 @@
 -- One row of a walk. Assumes nothing.
-use Rattle.std.proofs.Common.{◌≡◌, ℕ, ◌+◌, ◌<◌, min, true, List, [], ◌∷◌, ◌++◌, length, set, is_some, Some, None, Option, unwrap_or, sym, refl, ap, ◌∙◌, subst, arith}
+use Rattle.std.proofs.Common.{◌≡◌, ◌<◌, true, List, [], ◌∷◌, ◌++◌, length, is_some, Some, None, Option, unwrap_or, sym, refl, ap, ◌∙◌, subst, arith}
 use Rattle.hir.specs.Lists.{over, Each}
 use Rattle.reactive.specs.declared.row.RowHead.{RowHead}
 use Rattle.reactive.specs.Rows.{Reading, head, left, upcoming, advanced, given, last_row, no_row}
 use Rattle.reactive.proofs.Steps.{gives, ended}
-use Rattle.walk.specs.Events.{Event, entering, closing, staying, innermost_of, events, Allowed, Shallow, standing}
-use Rattle.walk.proofs.Standing.{staying_min, standing_push}
+use Rattle.walk.specs.Events.{Event, entering, closing, staying, innermost_of, events, Allowed, Shallow}
 
 pub over_append : {W A : Type 0} (f : W → A → W) (w : W) (xs ys : List A) → over f w (xs ++ ys) ≡ over f (over f w xs) ys
 over_append f w [] ys = refl
@@ -115,11 +114,3 @@ module _ {W : Type 0} (can : W → Event → Type 0) (after : W → Event → W)
 
     pub walked_all : (on : W) → on ≡ over after at (closing 0 around) → on ≡ over after start (events [] first.rows)
     walked_all on h = h ∙ sym finishing.same
-
--- the open rows in an array, after one more was entered
-pub array_push : (stack : List RowHead) (height n d : ℕ) (row : RowHead) → n ≡ min height d → n < length stack → row ∷ staying d (standing stack height) ≡ standing (set stack n row) (n + 1)
-array_push stack height n d row e low =
-    ap (λ rs. row ∷ rs) (staying_min stack height d ∙ ap (standing stack) (sym e)) ∙ sym (standing_push stack n row low)
-
-pub array_innermost : (stack : List RowHead) (height n d : ℕ) (parent : Option RowHead) → n ≡ min height d → parent ≡ innermost_of (standing stack n) → parent ≡ innermost_of (staying d (standing stack height))
-array_innermost stack height n d parent e h = h ∙ ap innermost_of (ap (standing stack) e ∙ sym (staying_min stack height d))

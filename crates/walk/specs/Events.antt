@@ -1,9 +1,9 @@
 -- What a walk does, as a list of events that the rows alone determine. Assumes nothing.
-use Rattle.std.specs.Prelude.{ℕ, zero, suc, ◌<◌, cond, List, [], ◌∷◌, ◌++◌, length, Some, None, Option, nat_le, slice_index_or}
+use Rattle.std.specs.Prelude.{ℕ, ◌<◌, cond, List, [], ◌∷◌, ◌++◌, length, Some, None, Option, nat_le}
 use Rattle.hir.specs.Lists.{over}
 use Rattle.hir.specs.Scratches.{Tables}
 use Rattle.reactive.specs.declared.row.RowHead.{RowHead}
-use Rattle.reactive.specs.Rows.{Row, head, no_row}
+use Rattle.reactive.specs.Rows.{Row, head}
 
 -- a visitor with the tables that it writes
 pub record Whole (V : Type 0) : Type 0 where
@@ -46,11 +46,6 @@ Allowed can after w (e ∷ es) = can w e × Allowed can after (after w e) es
 
 abbrev pub Shallow : Row → Type 0
 Shallow r = r.depth < 128
-
--- the first h rows of a stack, innermost first
-abbrev pub standing : List RowHead → ℕ → List RowHead
-standing stack zero = []
-standing stack (suc h) = slice_index_or stack h (head no_row) ∷ standing stack h
 
 -- a pass that turns each event into acts does them one after another
 abbrev pub acting : {W A : Type 0} → (W → A → W) → (Event → List A) → W → Event → W

@@ -1,10 +1,10 @@
-ghost use Rattle.std.specs.Prelude.{◌≡◌, true, is_some};
+ghost use Rattle.std.specs.Prelude.{◌≡◌};
 ghost use Rattle.hir.specs.Scratches.{tables};
-ghost use Rattle.reactive.specs.Rows.{head, given, last_row};
 ghost use Rattle.walk.specs.Events.{Whole, whole, Event, entering, leaving};
 
 use hir::environment::Environment;
 use hir::scratch::Scratch;
+use reactive::given::GivenRow;
 use reactive::row::RowHead;
 use reactive::source::TreeSource;
 
@@ -16,19 +16,16 @@ pub trait Visitor {
     // what an event leaves
     ghost after: { Whole Self → Event → Whole Self };
 
-    // A row is entered, within its parent; the source gave it last.
+    // A row is entered, within its parent.
     fn enter<S: TreeSource>(
         &mut self,
         env: &mut Environment,
         scratch: &mut Scratch,
         parent: Option<RowHead>,
-        row: &RowHead,
-        source: &S,
+        row: &GivenRow<S>,
     )
-        requires given { is_some (given (S.TreeSource.reading source.now)) ≡ true }
-        requires row { row.now ≡ head (last_row (S.TreeSource.reading source.now)) }
-        requires can { can (whole self.old (tables env.old scratch.old)) (entering parent (last_row (S.TreeSource.reading source.now))) }
-        ensures { whole self.new (tables env.new scratch.new) ≡ after (whole self.old (tables env.old scratch.old)) (entering parent (last_row (S.TreeSource.reading source.now))) };
+        requires { can (whole self.old (tables env.old scratch.old)) (entering parent row.now) }
+        ensures { whole self.new (tables env.new scratch.new) ≡ after (whole self.old (tables env.old scratch.old)) (entering parent row.now) };
 
     // A row is left, after all rows within it.
     fn leave(&mut self, env: &mut Environment, scratch: &mut Scratch, row: &RowHead)

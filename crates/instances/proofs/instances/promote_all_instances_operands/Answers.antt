@@ -1,34 +1,7 @@
-use Rattle.std.proofs.Common.{◌+◌, sym, ap, subst, arith}
-use Rattle.hir.specs.Scratches.{Tables, tables}
-use Rattle.reactive.specs.declared.row.RowHead.{RowHead}
-use Rattle.reactive.specs.Rows.{last_row}
-use Rattle.reactive.proofs.Lists.{found_here, found_within}
-use Rattle.walk.proofs.Acting.{Doing, doing_none, doing_one, doing_more, doing_all}
+use Rattle.walk.proofs.Acting.{doing_more}
 use Rattle.instances.specs.Instances.{again, does, Ready}
 use Rattle.instances.proofs.Passes.{splits}
 use Rattle.instances.proofs.instances.promote_all_instances_operands.Goals as goal
-use Rattle.instances.proofs.instances.promote_all_instances_operands.Goals.{in-Some, in_default}
 
-pub loop-i-init : goal.loop-i-init
-loop-i-init g c = doing_none does Ready splits again _ _ c.requires.ready
-
-pub promote_all_instances_place-requires : goal.promote_all_instances_place-requires
-promote_all_instances_place-requires g c =
-    let r = doing_one does Ready splits again _ _ _ _ c.in-Some.id c.loop-i.invariant (found_here (λ r. r.operands) (g.S.TreeSource.reading c.args.source.now) c.loop-i.i c.requires.given c.in-Some.id c.in-Some.ensures) in
-    record { known = r.fits.0; sound = r.sound }
-
-pub loop-i-preserved : goal.loop-i-preserved
-loop-i-preserved g c =
-    let s = g.S.TreeSource.reading c.args.source.now in
-    let Inv : Tables → Type 0 = λ t. Doing does Ready splits again (tables c.args.env.now c.args.scratch.now) t (last_row s).operands (c.loop-i.i + 1) in
-    elim c.match-operand.branch [
-      | in-Some w ↦
-          subst Inv (λ i. tables (sym w.env-is i) (sym w.scratch-is i))
-          (doing_more does Ready splits again _ _ _ _ w.in-Some.id c.loop-i.invariant (found_here (λ r. r.operands) s c.loop-i.i c.requires.given w.in-Some.id w.in-Some.ensures) _ w.promote_all_instances_place.ensures)
-      | in_default w ↦
-          absurd (found_within (λ r. r.operands) s c.loop-i.i c.requires.given c.args.row.now.operands (ap (λ (r : RowHead). r.operands) c.requires.row) c.loop-i-test.true (sym w.in_default.ensures))
-    ]
-
-pub returns : goal.returns
-returns g c =
-    doing_all does Ready splits again _ _ _ _ c.loop-i.invariant (omega (arith, ap (λ (r : RowHead). r.operands) c.requires.row))
+pub loop-id-preserved : goal.loop-id-preserved
+loop-id-preserved g c = (tt, tt, doing_more does Ready splits again _ _ _ _ c.in-Some.id _ c.loop-id.invariant.2 c.in-Some.ensures.steps _ c.promote_all_instances_place.ensures)

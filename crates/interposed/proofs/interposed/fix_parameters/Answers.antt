@@ -1,4 +1,5 @@
 use Rattle.std.proofs.Common.{ℕ, List, map, sym, ap, ◌∙◌, subst, arith}
+use Rattle.std.proofs.lemmas.List.{drop_all}
 use Rattle.hir.specs.Lists.{over}
 use Rattle.hir.specs.Scratches.{tables}
 use Rattle.hir.specs.Spans.{ident, part}
@@ -15,14 +16,14 @@ loop-n-init c =
     doing_none does Ready splits (λ n. fixes (ident n)) w _ (subst P (sym c.of-n-items.ensures) (subst (Ready w) (map_map fixes ident _) c.requires))
 
 pub fix-requires : goal.fix-requires
-fix-requires c = doing_one does Ready splits (λ n. fixes (ident n)) _ _ _ _ _ c.loop-n.invariant (slice_here _ c.loop-n.n-index 0 (omega arith))
+fix-requires c = doing_one does Ready splits (λ n. fixes (ident n)) _ _ _ _ _ _ c.loop-n.invariant (slice_here _ c.loop-n.n-index 0 (omega arith))
 
 pub loop-n-preserved : goal.loop-n-preserved
-loop-n-preserved c = doing_more does Ready splits (λ n. fixes (ident n)) _ _ _ _ _ c.loop-n.invariant (slice_here _ c.loop-n.n-index 0 (omega arith)) _ c.fix.ensures
+loop-n-preserved c = doing_more does Ready splits (λ n. fixes (ident n)) _ _ _ _ _ _ c.loop-n.invariant (slice_here _ c.loop-n.n-index 0 (omega arith)) _ c.fix.ensures
 
 pub returns : goal.returns
 returns c =
     let w = whole c.args.visitor.now (tables c.args.env.now c.args.scratch.now) in
-    doing_all does Ready splits (λ n. fixes (ident n)) _ _ _ _ c.loop-n.invariant (omega arith)
+    doing_all does Ready splits (λ n. fixes (ident n)) _ _ _ _ c.loop-n.invariant (drop_all c.loop-n.n-index c.of-n-items.result.now (omega arith))
     ∙ ap (λ (ns : List ℕ). over does w (map (λ n. fixes (ident n)) ns)) c.of-n-items.ensures
     ∙ ap (over does w) (sym (map_map fixes ident (part c.args.env.now.pool.now c.args.parameters)))

@@ -1,17 +1,17 @@
-use Rattle.std.proofs.Common.{◌≡◌, ◌-◌, ◌≤◌, min}
+use Rattle.std.proofs.Common.{◌≡◌, length, take, reverse}
 use Rattle.hir.specs.Scratches.{tables}
-use Rattle.walk.specs.Events.{whole, closing, standing}
+use Rattle.walk.specs.Events.{whole, closing}
 use Rattle.walk.proofs.Rows.{Onward}
 use Rattle.walk.proofs.walking.close.Given as goal
 
-abbrev pub invariant-loop-left : goal.invariant-loop-left
-invariant-loop-left g l =
-    (l.left ≤ l.height) × (min l.left l.depth ≡ min l.height l.depth) ×
+abbrev pub invariant-loop-opened : goal.invariant-loop-opened
+invariant-loop-opened g l =
+    (take l.depth l.opened.items ≡ take l.depth l.initial.opened.items) ×
     Onward g.V.Visitor.can g.V.Visitor.after
     (whole l.initial.visitor (tables l.initial.env l.initial.scratch))
     (whole l.visitor (tables l.env l.scratch))
-    (closing l.depth (standing l.stack l.height))
-    (closing l.depth (standing l.stack l.left))
+    (closing l.depth (reverse l.initial.opened.items))
+    (closing l.depth (reverse l.opened.items))
 
-abbrev pub decreases-loop-left : goal.decreases-loop-left
-decreases-loop-left g l = l.left - l.depth
+abbrev pub decreases-loop-opened : goal.decreases-loop-opened
+decreases-loop-opened g l = length l.opened.items

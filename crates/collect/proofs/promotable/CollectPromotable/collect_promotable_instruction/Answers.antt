@@ -1,22 +1,17 @@
-use Rattle.reactive.specs.Rows.{last_row}
+use Rattle.std.proofs.Common.{◌==◌, sym, ap, ◌∙◌}
+use Rattle.reactive.specs.declared.row.RowHead.{RowHead}
 use Rattle.collect.proofs.Leaves.{ready_uses, ready_tags, leaf_done}
 use Rattle.collect.proofs.promotable.CollectPromotable.collect_promotable_instruction.Goals as goal
 
 pub collect_promotable_operands-requires : goal.collect_promotable_operands-requires
-collect_promotable_operands-requires g c =
-    let r = last_row (g.S.TreeSource.reading c.args.source.now) in
-    record { given = c.requires.given; row = c.requires.row; ready = ready_uses r _ c.requires.ready }
+collect_promotable_operands-requires g c = ready_uses c.args.row.now _ c.requires
 
 pub collect_promotable_tags-requires : goal.collect_promotable_tags-requires
 collect_promotable_tags-requires g c =
-    let r = last_row (g.S.TreeSource.reading c.args.source.now) in
-    record {
-      given = c.requires.given;
-      row = c.requires.row;
-      ready = ready_tags r _ c.requires.ready c.args.row.now c.requires.row c.if-row-eq-JSX.true _ c.collect_promotable_operands.ensures;
-    }
+    let is = ap (λ (h : RowHead). h.kind == 15) (sym c.head.ensures) ∙ sym c.is_kind.ensures ∙ c.if-is_kind.true in
+    ready_tags c.args.row.now _ c.requires is _ c.collect_promotable_operands.ensures
 
-pub returns-then-row-eq-JSX : goal.returns-then-row-eq-JSX
-returns-then-row-eq-JSX g c =
-    let r = last_row (g.S.TreeSource.reading c.args.source.now) in
-    leaf_done r _ c.requires.ready c.args.row.now c.requires.row c.if-row-eq-JSX.true _ c.collect_promotable_operands.ensures _ c.collect_promotable_tags.ensures
+pub returns-then-is_kind : goal.returns-then-is_kind
+returns-then-is_kind g c =
+    let is = ap (λ (h : RowHead). h.kind == 15) (sym c.head.ensures) ∙ sym c.is_kind.ensures ∙ c.if-is_kind.true in
+    leaf_done c.args.row.now _ c.requires is _ c.collect_promotable_operands.ensures _ c.collect_promotable_tags.ensures

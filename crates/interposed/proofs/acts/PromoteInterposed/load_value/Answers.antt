@@ -1,16 +1,14 @@
-use Rattle.std.proofs.Common.{sym, ap, ◌∙◌}
+use Rattle.std.proofs.Common.{◌≡◌, ℕ, sym, ap, ◌∙◌}
 use Rattle.hir.specs.Lists.{over}
 use Rattle.hir.specs.Scratches.{tables}
-use Rattle.reactive.specs.Rows.{last_row}
-use Rattle.reactive.proofs.Lists.{found_here}
+use Rattle.reactive.specs.Kinds.{kind_number}
 use Rattle.walk.specs.Events.{whole}
 use Rattle.interposed.specs.Acts.{does}
 use Rattle.interposed.proofs.Passes.{value_mark}
 use Rattle.interposed.proofs.acts.PromoteInterposed.load_value.Goals as goal
 
-pub returns-in-Some-mark : goal.returns-in-Some-mark
-returns-in-Some-mark g c =
-    let s = g.S.TreeSource.reading c.args.source.now in
+pub returns-in-Some-next : goal.returns-in-Some-next
+returns-in-Some-next g c =
     c.load_mark.ensures
     ∙ ap (over does (whole c.args.self.now (tables c.args.env.now c.args.scratch.now)))
-    (sym (value_mark c.args.kind c.in-Some.l c.in-Some-mark.mark c.args.lvalue (last_row s).marks _ c.in-Some.is c.if-kind-eq-LOAD_GLOBAL.false (found_here (λ r. r.marks) s 0 c.requires.given c.in-Some-mark.mark c.in-Some-mark.ensures)))
+    (sym (value_mark (kind_number c.args.kind) c.in-Some.l c.in-Some-next.mark c.args.lvalue c.args.row.now.marks _ c.in-Some.is (sym c.is_global_load.ensures ∙ c.if-is_global_load.false) (sym c.marks.ensures ∙ c.in-Some-next.ensures.steps)))

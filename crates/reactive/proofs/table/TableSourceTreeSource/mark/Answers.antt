@@ -1,13 +1,8 @@
-use Rattle.std.proofs.Common.{Some, None, ◌∙◌}
+use Rattle.std.proofs.Common.{sym, ◌∙◌}
 use Rattle.reactive.proofs.Places.{table_list}
 use Rattle.reactive.proofs.table.TableSourceTreeSource.mark.Goals as goal
 
-pub returns-in-Some : goal.returns-in-Some
-returns-in-Some c =
+pub returns : goal.returns
+returns c =
     let s = c.args.self.now in
-    c.identifier_at.ensures ∙ table_list (λ r. r.marks) s.rows.now s.pool.now s.position c.args.i (Some c.in-Some.entry) c.in-Some.ensures
-
-pub returns-in-None : goal.returns-in-None
-returns-in-None c =
-    let s = c.args.self.now in
-    table_list (λ r. r.marks) s.rows.now s.pool.now s.position c.args.i None c.in-None.ensures
+    c.identifier_at.ensures ∙ table_list (λ r. r.marks) s.rows.now s.pool.now s.position c.args.i _ (sym c.in_ok-given.was ∙ c.given.ensures)
