@@ -4,7 +4,7 @@ use Rattle.hir.specs.declared.refusal.Refusal.{Refusal}
 use Rattle.hir.specs.declared.refusal.Refusal.TheVariants as refusals
 use Rattle.hir.specs.declared.span.Span.{Span}
 use Rattle.hir.specs.Environments.{Model}
-use Rattle.hir.specs.Lists.{some}
+use Rattle.std.specs.List.{list_any}
 use Rattle.hir.specs.Refusals.{refused_if, or_else}
 use Rattle.hir.specs.Scratches.{Notes}
 use Rattle.reactive.specs.Rows.{Row}
@@ -18,7 +18,7 @@ same_refusal : (m : Model) (ps : Span) (rows : List Row) (n k : Notes) → SameS
 same_refusal m ps rows n k s = (λ i.
     or_else
     (refused_if (passes_limit m ps) refusals.Limit
-    (refused_if (some (bad_row (length m.identifiers)) m.identifiers) refusals.Row
+    (refused_if (list_any (bad_row (length m.identifiers)) m.identifiers) refusals.Row
     (refused_if (bad_lists m ps) refusals.List
     (refused_if (no_room m) refusals.Journal
     (refused_if (ltb (s.work i) (length m.identifiers) || ltb (s.marks i) (length m.functions)) refusals.Scratch None)))))

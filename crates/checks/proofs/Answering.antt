@@ -1,7 +1,9 @@
 -- What an answer tells of the refusal behind it. Assumes nothing.
 use Rattle.std.proofs.Common.{◌≡◌, ℕ, Some, None, Ok, Err, Option, Result, sym, refl, ap, ◌∙◌, arith}
 use Rattle.hir.specs.declared.refusal.Refusal.{Refusal}
+use Rattle.hir.specs.declared.refusal.Refusal.TheVariants as refusals
 use Rattle.hir.specs.Refusals.{answered, or_else}
+use Rattle.checks.specs.Rows.{Open, unplaced}
 
 pub refuses : {X : Type 0} (o : Option Refusal) (r : Refusal) (x : X) → o ≡ Some r → Err r ≡ answered o x
 refuses o r x e = sym (ap (λ k. answered k x) e)
@@ -25,3 +27,8 @@ first_refuses o p r e = ap (λ k. or_else k p) e
 -- of two tests the first passes, so that the second decides
 pub second_decides : (o p : Option Refusal) → o ≡ None → or_else o p ≡ p
 second_decides o p e = ap (λ k. or_else k p) e
+
+-- a row that was refused has no place
+pub unplaced_refused : (o : Option Open) (r : Refusal) → ◌≡◌ {A = Result (Unit {0}) Refusal} (Err r) (answered (unplaced o) tt) → (o ≡ None) × (r ≡ refusals.Shape)
+unplaced_refused None r e = (refl, cc)
+unplaced_refused (Some os) r e = absurd (let z : ◌≡◌ {A = ℕ} 0 1 = cc in omega arith)

@@ -1,6 +1,5 @@
 pub mod Loops
 pub mod Slots
-pub mod Elements
 pub mod Opening
 pub mod Answering
 pub mod Seeing

@@ -7,21 +7,18 @@ use Rattle.hir.specs.Refusals.{refused_if}
 use Rattle.reactive.specs.declared.row.RowHead.{RowHead}
 use Rattle.reactive.specs.Rows.{Reading, head, upcoming, advanced, given, left, last_row, no_row}
 use Rattle.reactive.proofs.Steps as steps
-use Rattle.checks.specs.declared.stack.Stack.{Stack}
 use Rattle.checks.specs.Rows.{Sizes, Open, row_passes_limit, opened, shaped, wrong_fields, ended, rows_refusal, scope_rows}
-use Rattle.checks.specs.Stacks.{open_rows}
 
 -- the rows so far are sound: what is left decides
-pub record Seen (z : Sizes) (start s : Reading) (stack : Stack) (seen scopes : ℕ) : Type 0 where
+pub record Seen (z : Sizes) (start s : Reading) (stack : Open) (seen scopes : ℕ) : Type 0 where
   pub same : s.rows ≡ start.rows
-  pub refusal : rows_refusal z seen (open_rows stack) (left s) ≡ rows_refusal z 0 [] start.rows
+  pub refusal : rows_refusal z seen stack (left s) ≡ rows_refusal z 0 [] start.rows
   pub sum : scopes + scope_rows (left s) ≡ scope_rows start.rows
   pub few : scopes ≤ seen
   pub limit : seen ≤ 262144
-  pub high : stack.height ≤ 128
 
-pub seen_none : (z : Sizes) (s : Reading) (stack : Stack) → s.place ≡ 0 → open_rows stack ≡ [] → stack.height ≤ 128 → Seen z s s stack 0 0
-seen_none z s stack e none high =
+pub seen_none : (z : Sizes) (s : Reading) (stack : Open) → s.place ≡ 0 → stack ≡ [] → Seen z s s stack 0 0
+seen_none z s stack e none =
     let l : left s ≡ s.rows = ap (λ p. drop p s.rows) e in
     record {
       same = refl;
@@ -29,11 +26,10 @@ seen_none z s stack e none high =
       sum = (let a = ap scope_rows l in omega arith);
       few = omega arith;
       limit = omega arith;
-      high = high;
     }
 
 -- one row more is given
-module _ {z : Sizes} {start s : Reading} {stack : Stack} {seen scopes : ℕ} (inv : Seen z start s stack seen scopes) {t : Reading} (row : RowHead) (gave : Some row ≡ upcoming s) (on : t ≡ advanced s) where
+module _ {z : Sizes} {start s : Reading} {stack : Open} {seen scopes : ℕ} (inv : Seen z start s stack seen scopes) {t : Reading} (row : RowHead) (gave : Some row ≡ upcoming s) (on : t ≡ advanced s) where
   last_is : (got : steps.Gives s row) → last_row t ≡ got.item
   last_is got = ap last_row on ∙ ap (λ o. unwrap_or o no_row) got.last
 
@@ -57,11 +53,11 @@ module _ {z : Sizes} {start s : Reading} {stack : Stack} {seen scopes : ℕ} (in
   opened_then o = refused_if (wrong_fields z (last_row t)) refusals.Field (rows_refusal z (seen + 1) o (left t))
 
   -- the answer, by the tests of this row
-  tests : rows_refusal z 0 [] start.rows ≡ refused_if (row_passes_limit seen row) refusals.Limit (refused_if (ltb 127 row.depth) refusals.Depth (shaped (opened (open_rows stack) row.depth row.code) opened_then))
+  tests : rows_refusal z 0 [] start.rows ≡ refused_if (row_passes_limit seen row) refusals.Limit (refused_if (ltb 127 row.depth) refusals.Depth (shaped (opened stack row.depth row.code) opened_then))
   unfolding opened_then
   tests =
-      sym inv.refusal ∙ ap (rows_refusal z seen (open_rows stack)) rest_is
-      ∙ ap (λ (h : RowHead). refused_if (row_passes_limit seen h) refusals.Limit (refused_if (ltb 127 h.depth) refusals.Depth (shaped (opened (open_rows stack) h.depth h.code) opened_then))) (sym row_head)
+      sym inv.refusal ∙ ap (rows_refusal z seen stack) rest_is
+      ∙ ap (λ (h : RowHead). refused_if (row_passes_limit seen h) refusals.Limit (refused_if (ltb 127 h.depth) refusals.Depth (shaped (opened stack h.depth h.code) opened_then))) (sym row_head)
 
   pub over_limit : true ≡ row_passes_limit seen row → rows_refusal z 0 [] start.rows ≡ Some refusals.Limit
   over_limit e = tests ∙ cond-true _ _ _ (sym e)
@@ -71,36 +67,35 @@ module _ {z : Sizes} {start s : Reading} {stack : Stack} {seen scopes : ℕ} (in
     over_depth h = tests ∙ cond-false _ _ _ (sym in_limit) ∙ cond-true _ _ _ (lt-ltb _ _ h)
 
     module _ (shallow : row.depth ≤ 127) where
-      further : (o : Option Open) → opened (open_rows stack) row.depth row.code ≡ o → rows_refusal z 0 [] start.rows ≡ shaped o opened_then
+      further : (o : Option Open) → opened stack row.depth row.code ≡ o → rows_refusal z 0 [] start.rows ≡ shaped o opened_then
       further o e = tests ∙ cond-false _ _ _ (sym in_limit) ∙ cond-false _ _ _ (le-ltb _ _ shallow) ∙ ap (λ x. shaped x opened_then) e
 
-      pub over_shape : opened (open_rows stack) row.depth row.code ≡ None → rows_refusal z 0 [] start.rows ≡ Some refusals.Shape
+      pub over_shape : opened stack row.depth row.code ≡ None → rows_refusal z 0 [] start.rows ≡ Some refusals.Shape
       over_shape e = further None e
 
-      module _ (after : Stack) (opens : opened (open_rows stack) row.depth row.code ≡ Some (open_rows after)) where
+      module _ (after : Open) (opens : opened stack row.depth row.code ≡ Some after) where
         pub over_field : true ≡ wrong_fields z (last_row t) → rows_refusal z 0 [] start.rows ≡ Some refusals.Field
         unfolding opened_then
-        over_field e = further (Some (open_rows after)) opens ∙ cond-true _ _ _ (sym e)
+        over_field e = further (Some after) opens ∙ cond-true _ _ _ (sym e)
 
         -- the row is sound, so that the rows after it decide
-        pub seen_on : false ≡ wrong_fields z (last_row t) → after.height ≤ 128 → (n : ℕ) → n ≡ scopes + cond (eqb row.code 3) 1 0 → n ≤ seen + 1 → Seen z start t after (seen + 1) n
+        pub seen_on : false ≡ wrong_fields z (last_row t) → (n : ℕ) → n ≡ scopes + cond (eqb row.code 3) 1 0 → n ≤ seen + 1 → Seen z start t after (seen + 1) n
         unfolding opened_then
-        seen_on e high n is few =
+        seen_on e n is few =
             let low : seen < 262144 = leb-false 262144 seen (or_parts (leb 262144 seen) _ (sym in_limit)).0 in
             let a : scope_rows (left s) ≡ cond (eqb row.code 3) 1 0 + scope_rows (left t) = ap scope_rows rest_is ∙ ap (λ (h : RowHead). cond (eqb h.code 3) 1 0 + scope_rows (left t)) (sym row_head) in
             record {
               same = rows_same;
-              refusal = sym (further (Some (open_rows after)) opens ∙ cond-false _ _ _ (sym e));
+              refusal = sym (further (Some after) opens ∙ cond-false _ _ _ (sym e));
               sum = omega (arith, inv.sum);
               few = few;
               limit = omega arith;
-              high = high;
             }
 
 -- no row is left
-module _ {z : Sizes} {start s : Reading} {stack : Stack} {seen scopes : ℕ} (inv : Seen z start s stack seen scopes) (gave : None ≡ upcoming s) where
-  pub ends : rows_refusal z 0 [] start.rows ≡ ended (open_rows stack)
-  ends = sym inv.refusal ∙ ap (rows_refusal z seen (open_rows stack)) (steps.ended s gave).0
+module _ {z : Sizes} {start s : Reading} {stack : Open} {seen scopes : ℕ} (inv : Seen z start s stack seen scopes) (gave : None ≡ upcoming s) where
+  pub ends : rows_refusal z 0 [] start.rows ≡ ended stack
+  ends = sym inv.refusal ∙ ap (rows_refusal z seen stack) (steps.ended s gave).0
 
   pub counted : scopes ≡ scope_rows start.rows
   counted = let e = ap scope_rows (steps.ended s gave).0 in omega (arith, inv.sum)

@@ -12,7 +12,8 @@ use Rattle.hir.specs.declared.tables.Identifier.{Identifier}
 use Rattle.hir.specs.declared.tables.Scope.{Scope}
 use Rattle.hir.specs.declared.tables.Function.{Function}
 use Rattle.hir.specs.Environments.{Model, no_identifier, no_scope, no_function, row_of, scope_of, function_of, unnamed}
-use Rattle.hir.specs.Lists.{some, Each}
+use Rattle.hir.specs.Lists.{Each}
+use Rattle.std.specs.List.{list_any}
 use Rattle.hir.specs.Refusals.{refused_if, or_else}
 use Rattle.hir.specs.Scratches.{Notes}
 use Rattle.hir.specs.Spans.{part, ident, function, identifiers_in, functions_in}
@@ -34,24 +35,24 @@ neither : (o p : Option Refusal) → or_else o p ≡ None → (o ≡ None) × (p
 neither None p e = (refl, e)
 neither (Some r) p e = absurd (let z : ◌≡◌ {A = ℕ} 0 1 = cc in omega arith)
 
-none_at : {A : Type 0} (p : A → Bool) (xs : List A) → some p xs ≡ false → (k : ℕ) → k < length xs → (d : A) → p (get_or xs k d) ≡ false
+none_at : {A : Type 0} (p : A → Bool) (xs : List A) → list_any p xs ≡ false → (k : ℕ) → k < length xs → (d : A) → p (get_or xs k d) ≡ false
 none_at p [] e k h d = absurd (omega arith)
-none_at p (x ∷ xs) e zero h d = (or_parts (p x) (some p xs) e).0
-none_at p (x ∷ xs) e (suc k) h d = none_at p xs (or_parts (p x) (some p xs) e).1 k (omega arith) d
+none_at p (x ∷ xs) e zero h d = (or_parts (p x) (list_any p xs) e).0
+none_at p (x ∷ xs) e (suc k) h d = none_at p xs (or_parts (p x) (list_any p xs) e).1 k (omega arith) d
 
-each_of : {A B : Type 0} (p : A → Bool) (f : A → B) (Q : B → Type 0) → ((x : A) → p x ≡ false → Q (f x)) → (xs : List A) → some p xs ≡ false → Each Q (map f xs)
+each_of : {A B : Type 0} (p : A → Bool) (f : A → B) (Q : B → Type 0) → ((x : A) → p x ≡ false → Q (f x)) → (xs : List A) → list_any p xs ≡ false → Each Q (map f xs)
 each_of p f Q each [] e = tt
-each_of p f Q each (x ∷ xs) e = let h = or_parts (p x) (some p xs) e in (each x h.0, each_of p f Q each xs h.1)
+each_of p f Q each (x ∷ xs) e = let h = or_parts (p x) (list_any p xs) e in (each x h.0, each_of p f Q each xs h.1)
 
-each_none : {A : Type 0} (p : A → Bool) (Q : A → Type 0) → ((x : A) → p x ≡ false → Q x) → (xs : List A) → some p xs ≡ false → Each Q xs
+each_none : {A : Type 0} (p : A → Bool) (Q : A → Type 0) → ((x : A) → p x ≡ false → Q x) → (xs : List A) → list_any p xs ≡ false → Each Q xs
 each_none p Q each [] e = tt
-each_none p Q each (x ∷ xs) e = let h = or_parts (p x) (some p xs) e in (each x h.0, each_none p Q each xs h.1)
+each_none p Q each (x ∷ xs) e = let h = or_parts (p x) (list_any p xs) e in (each x h.0, each_none p Q each xs h.1)
 
 -- ---- tables
 
 module _ (n : ℕ) (pool : List ℕ) (s : Span) (e : tables.bad_list n pool s ≡ false) where
-  inner : some (leb n) (part pool s) ≡ false
-  inner = (or_parts (ltb (length pool) (s.start + s.count)) (some (leb n) (part pool s)) e).1
+  inner : list_any (leb n) (part pool s) ≡ false
+  inner = (or_parts (ltb (length pool) (s.start + s.count)) (list_any (leb n) (part pool s)) e).1
 
   present_list : Present n (identifiers_in pool s)
   present_list = each_of (leb n) ident (λ i. i.0 < n) (λ k h. leb-false n k h) (part pool s) inner
@@ -79,13 +80,13 @@ pub sound_tables : (m : Model) (n : Notes) (ps : Span) → tables.tables_refusal
 sound_tables m n ps e =
     let is = m.identifiers in
     let limit = passes (tables.passes_limit m ps) refusals.Limit _ e in
-    let row = passes (some (tables.bad_row (length is)) is) refusals.Row _ limit.1 in
+    let row = passes (list_any (tables.bad_row (length is)) is) refusals.Row _ limit.1 in
     let list = passes (tables.bad_lists m ps) refusals.List _ row.1 in
     let journal = passes (tables.no_room m) refusals.Journal _ list.1 in
     let scratch = passes (tables.little_scratch m n) refusals.Scratch None journal.1 in
     let few = or_parts (tables.many_identifiers m) _ limit.0 in
-    let scopes = or_parts (some (tables.bad_scope (length is) m.pool) m.scopes) _ list.0 in
-    let functions = or_parts (some (tables.bad_function (length is) (length m.functions) m.pool) m.functions) (tables.bad_list (length is) m.pool ps) scopes.1 in
+    let scopes = or_parts (list_any (tables.bad_scope (length is) m.pool) m.scopes) _ list.0 in
+    let functions = or_parts (list_any (tables.bad_function (length is) (length m.functions) m.pool) m.functions) (tables.bad_list (length is) m.pool ps) scopes.1 in
     let count = or_parts (ltb (length m.journal) m.count) (ltb (length m.journal - m.count) (unnamed is)) journal.0 in
     let room = or_parts (ltb (length n.work) (length is)) (ltb (length n.marks) (length m.functions)) scratch.0 in
     record {

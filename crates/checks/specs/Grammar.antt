@@ -1,6 +1,6 @@
 -- Which children a row may have, in order. Assumes nothing.
 use Rattle.std.specs.Prelude.{ℕ, Bool, true, false, cond, ◌&&◌, ◌||◌, List, [], ◌∷◌, Some, None, Option, ◌==◌, nat_le, slice_index_or}
-use Rattle.hir.specs.Lists.{some}
+use Rattle.std.specs.List.{list_any}
 use Rattle.checks.specs.declared.grammar.Sort.{Sort}
 use Rattle.checks.specs.declared.grammar.Sort.TheVariants as sorts
 use Rattle.checks.specs.declared.grammar.Slot.{Slot}
@@ -84,4 +84,4 @@ follow (Many s ∷ rest) c = cond (admits s c) (Some (Many s ∷ rest)) (follow 
 
 -- a child is missing
 abbrev pub lacking : List Slot → Bool
-lacking slots = some required slots
+lacking slots = list_any required slots

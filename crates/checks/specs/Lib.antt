@@ -1,5 +1,4 @@
 pub mod Grammar
 pub mod Tables
 pub mod Rows
-pub mod Stacks
 pub mod Sound

@@ -5,7 +5,7 @@ use Rattle.hir.specs.declared.refusal.Refusal.{Refusal}
 use Rattle.hir.specs.declared.refusal.Refusal.TheVariants as refusals
 use Rattle.hir.specs.declared.span.Span.{Span}
 use Rattle.hir.specs.Environments.{Model}
-use Rattle.hir.specs.Lists.{some}
+use Rattle.std.specs.List.{list_any}
 use Rattle.hir.specs.Refusals.{refused_if, or_else}
 use Rattle.hir.specs.Scratches.{Notes}
 use Rattle.reactive.specs.declared.row.Number.{Number}
@@ -46,6 +46,11 @@ abbrev pub placed : Open → ℕ → Option Open
 placed [] c = cond (c == 1) (Some (children c ∷ [])) None
 placed (o ∷ os) c = with_child c os (follow o c)
 
+-- a row that has no place is refused
+abbrev pub unplaced : Option Open → Option Refusal
+unplaced None = Some refusals.Shape
+unplaced (Some os) = None
+
 -- the rows that a row of depth d closes, and those that stay open
 abbrev pub closing : Open → ℕ → Open
 closing os d = take (length os - d) os
@@ -55,7 +60,7 @@ staying os d = drop (length os - d) os
 
 -- the open rows after a row comes, or none where its depth, its code or a closing row's children are wrong
 abbrev pub opened : Open → ℕ → ℕ → Option Open
-opened os d c = cond (wrong_depth os d || some lacking (closing os d)) None (placed (staying os d) c)
+opened os d c = cond (wrong_depth os d || list_any lacking (closing os d)) None (placed (staying os d) c)
 
 -- codes whose identifier is required: Return, Throw, Switch, If
 abbrev pub needs_identifier : ℕ → Bool
@@ -96,7 +101,7 @@ wrong_marks kind count =
     (cond (kind == 15) (nat_lt 1 count) (not (count == 0))))
 
 abbrev pub absent_in : ℕ → List IdentifierId → Bool
-absent_in n is = some (λ i. leb n i.0) is
+absent_in n is = list_any (λ i. leb n i.0) is
 
 abbrev pub wrong_leaf : ℕ → Row → Bool
 wrong_leaf n r =
@@ -116,7 +121,7 @@ wrong_fields z r =
 -- no rows at all, or a row that lacks a child at the end
 abbrev pub ended : Open → Option Refusal
 ended [] = Some refusals.Shape
-ended (o ∷ os) = refused_if (some lacking (o ∷ os)) refusals.Shape None
+ended (o ∷ os) = refused_if (list_any lacking (o ∷ os)) refusals.Shape None
 
 -- refused by shape, or tested further with the rows that are open then
 abbrev pub shaped : Option Open → (Open → Option Refusal) → Option Refusal

@@ -7,7 +7,7 @@ use Rattle.hir.specs.declared.tables.Identifier.{Identifier}
 use Rattle.hir.specs.declared.tables.Scope.{Scope}
 use Rattle.hir.specs.declared.tables.Function.{Function}
 use Rattle.hir.specs.Environments.{Model, unnamed}
-use Rattle.hir.specs.Lists.{some}
+use Rattle.std.specs.List.{list_any}
 use Rattle.hir.specs.Refusals.{refused_if}
 use Rattle.hir.specs.Scratches.{Notes}
 use Rattle.hir.specs.Spans.{part}
@@ -31,7 +31,7 @@ abbrev pub passes_limit : Model → Span → Bool
 passes_limit m ps =
     many_identifiers m
     || (nat_lt 16384 (length m.scopes) || (nat_lt 4096 (length m.functions)
-    || (some long_scope m.scopes || (some long_function m.functions || long_list ps))))
+    || (list_any long_scope m.scopes || (list_any long_function m.functions || long_list ps))))
 
 -- a declaration not below the identifier count, or a tag above 3
 abbrev pub bad_row : ℕ → Identifier → Bool
@@ -39,7 +39,7 @@ bad_row n i = nat_le n i.declaration.0 || nat_lt 3 i.tag
 
 -- a list that leaves the pool, or names an item not below n
 abbrev pub bad_list : ℕ → List ℕ → Span → Bool
-bad_list n pool s = nat_lt (length pool) (s.start + s.count) || some (leb n) (part pool s)
+bad_list n pool s = nat_lt (length pool) (s.start + s.count) || list_any (leb n) (part pool s)
 
 abbrev pub bad_scope : ℕ → List ℕ → Scope → Bool
 bad_scope n pool s = bad_list n pool s.dependencies || (bad_list n pool s.declarations || bad_list n pool s.reassignments)
@@ -49,8 +49,8 @@ bad_function n fs pool f = bad_list n pool f.parameters || bad_list fs pool f.ne
 
 abbrev pub bad_lists : Model → Span → Bool
 bad_lists m ps =
-    some (bad_scope (length m.identifiers) m.pool) m.scopes
-    || (some (bad_function (length m.identifiers) (length m.functions) m.pool) m.functions
+    list_any (bad_scope (length m.identifiers) m.pool) m.scopes
+    || (list_any (bad_function (length m.identifiers) (length m.functions) m.pool) m.functions
     || bad_list (length m.identifiers) m.pool ps)
 
 -- the count is beyond the journal's length, or fewer rows are free than identifiers have no name
@@ -65,7 +65,7 @@ little_scratch m n = nat_lt (length n.work) (length m.identifiers) || nat_lt (le
 abbrev pub tables_refusal : Model → Notes → Span → Option Refusal
 tables_refusal m n ps =
     refused_if (passes_limit m ps) refusals.Limit
-    (refused_if (some (bad_row (length m.identifiers)) m.identifiers) refusals.Row
+    (refused_if (list_any (bad_row (length m.identifiers)) m.identifiers) refusals.Row
     (refused_if (bad_lists m ps) refusals.List
     (refused_if (no_room m) refusals.Journal
     (refused_if (little_scratch m n) refusals.Scratch None))))

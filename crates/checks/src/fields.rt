@@ -1,32 +1,35 @@
 // Faults of a row's fields.
-ghost use Rattle.std.specs.Prelude.{◌≡◌, true, is_some};
-ghost use Rattle.reactive.specs.Rows.{head, given, last_row};
+ghost use Rattle.std.specs.Prelude.{◌≡◌};
+ghost use Rattle.reactive.specs.Codes.{code_number};
+ghost use Rattle.reactive.specs.Kinds.{kind_number};
 ghost use Rattle.checks.specs.Rows.{needs_identifier, may_have_identifier, wrong_identifier, needs_scope, needs_function, wrong_number, wrong_mode, one_mark, wrong_marks, absent_in, wrong_leaf, leafless, wrong_fields};
 
-use crate::grammar::between;
 use crate::sizes::Sizes;
 use hir::ids::IdentifierId;
 use reactive::code::Code;
+use reactive::given::{GivenRow, Identifiers};
+use reactive::kind::Kind;
+use reactive::mode::Mode;
 use reactive::row::{Number, RowHead};
 use reactive::source::TreeSource;
 
 // Whether a row of this code has to have an identifier.
-fn needs_identifier(code: u8) -> bool
-    ensures { result ≡ needs_identifier code }
+fn needs_identifier(code: Code) -> bool
+    ensures { result ≡ needs_identifier (code_number code) }
 {
-    between(Code::Return as u8, Code::Switch as u8, code) || code == Code::If as u8
+    matches!(code, Code::Return | Code::Throw | Code::Switch | Code::If)
 }
 
 // Whether a row of this code may have an identifier, or none.
-fn may_have_identifier(code: u8) -> bool
-    ensures { result ≡ may_have_identifier code }
+fn may_have_identifier(code: Code) -> bool
+    ensures { result ≡ may_have_identifier (code_number code) }
 {
-    code == Code::Instruction as u8 || code == Code::Case as u8 || code == Code::Handler as u8
+    matches!(code, Code::Instruction | Code::Case | Code::Handler)
 }
 
 // Whether an identifier is missing, comes where none may, or is absent from the table.
-fn wrong_identifier(count: usize, code: u8, identifier: Option<IdentifierId>) -> bool
-    ensures { result ≡ wrong_identifier count code identifier }
+fn wrong_identifier(count: usize, code: Code, identifier: Option<IdentifierId>) -> bool
+    ensures { result ≡ wrong_identifier count (code_number code) identifier }
 {
     match identifier {
         Some(id) => !(needs_identifier(code) || may_have_identifier(code))
@@ -36,106 +39,100 @@ fn wrong_identifier(count: usize, code: u8, identifier: Option<IdentifierId>) ->
 }
 
 // Whether a row of this code has to have a scope.
-fn needs_scope(code: u8) -> bool
-    ensures { result ≡ needs_scope code }
+fn needs_scope(code: Code) -> bool
+    ensures { result ≡ needs_scope (code_number code) }
 {
-    code == Code::Scope as u8 || code == Code::Pruned as u8
+    matches!(code, Code::Scope | Code::Pruned)
 }
 
 // Whether a row is a Leaf that is a function expression or an object method.
-fn needs_function(code: u8, kind: u8) -> bool
-    ensures { result ≡ needs_function code kind }
+fn needs_function(code: Code, row: &RowHead) -> bool
+    ensures { result ≡ needs_function (code_number code) row.now.kind }
 {
-    code == Code::Leaf as u8 && (kind == 17 || kind == 30)
+    matches!(code, Code::Leaf)
+        && (row.is_kind(Kind::ObjectMethod) || row.is_kind(Kind::FunctionExpression))
 }
 
 // Whether a number is missing, is of the wrong sort, or is absent from its table.
-fn wrong_number(sizes: Sizes, code: u8, kind: u8, number: Option<Number>) -> bool
-    ensures { result ≡ wrong_number sizes code kind number }
+fn wrong_number(sizes: Sizes, code: Code, row: &RowHead) -> bool
+    ensures { result ≡ wrong_number sizes (code_number code) row.now.kind row.now.number }
 {
-    match number {
+    match row.number {
         Some(Number::Scope(scope)) => !needs_scope(code) || scope.0 as usize >= sizes.scopes,
-        Some(Number::Function(function)) => !needs_function(code, kind)
+        Some(Number::Function(function)) => !needs_function(code, row)
             || function.0 as usize >= sizes.functions,
-        None => needs_scope(code) || needs_function(code, kind),
+        None => needs_scope(code) || needs_function(code, row),
     }
 }
 
-// Whether a mode is above 7, or there is one where the kind has none.
-fn wrong_mode(kind: u8, mode: u8) -> bool
-    ensures { result ≡ wrong_mode kind mode }
+// Whether the byte is no mode, or there is one where the kind has none.
+fn wrong_mode(kind: Kind, mode: u8) -> bool
+    ensures { result ≡ wrong_mode (kind_number kind) mode }
 {
-    if between(2, 6, kind) {
-        mode > 7
-    } else {
-        mode != 0
+    match kind {
+        Kind::DeclareLocal
+        | Kind::DeclareContext
+        | Kind::StoreLocal
+        | Kind::StoreContext
+        | Kind::Destructure => Mode::try_from(mode).is_err(),
+        _ => mode != 0,
     }
 }
 
 // Whether a Leaf of this kind has exactly one mark.
-fn one_mark(kind: u8) -> bool
-    ensures { result ≡ one_mark kind }
+fn one_mark(kind: Kind) -> bool
+    ensures { result ≡ one_mark (kind_number kind) }
 {
-    kind <= 5 || kind == 12 || kind == 23 || kind == 26
+    matches!(
+        kind,
+        Kind::LoadLocal
+            | Kind::LoadContext
+            | Kind::DeclareLocal
+            | Kind::DeclareContext
+            | Kind::StoreLocal
+            | Kind::StoreContext
+            | Kind::MethodCall
+            | Kind::PropertyLoad
+            | Kind::ComputedLoad
+    )
 }
 
 // Whether a Leaf of this kind may not have so many marks.
-fn wrong_marks(kind: u8, count: usize) -> bool
-    ensures { result ≡ wrong_marks kind count }
+fn wrong_marks(kind: Kind, count: usize) -> bool
+    ensures { result ≡ wrong_marks (kind_number kind) count }
 {
-    if one_mark(kind) {
-        return count != 1;
-    }
     match kind {
-        6 => false,
-        15 => count > 1,
+        Kind::Destructure => false,
+        Kind::JsxExpression => count > 1,
+        _ if one_mark(kind) => count != 1,
         _ => count != 0,
     }
 }
 
-// Whether some operand of the row last given is absent.
-fn absent_operand<S: TreeSource>(source: &S, row: &RowHead, count: usize) -> bool
-    requires given { is_some (given (S.TreeSource.reading source.now)) ≡ true }
-    requires row { row.now ≡ head (last_row (S.TreeSource.reading source.now)) }
-    ensures { result ≡ absent_in count (last_row (S.TreeSource.reading source.now)).operands }
+// Whether some identifier of a list is absent.
+fn absent_in<S: TreeSource>(ids: Identifiers<S>, count: usize) -> bool
+    ensures { result ≡ absent_in count ids.entry }
 {
-    for i in 0..row.operands {
-        if let Some(id) = source.operand(i) {
-            if id.0 as usize >= count {
-                return true;
-            }
+    for id in ids {
+        if id.0 as usize >= count {
+            return true;
         }
     }
     false
 }
 
-// Whether some mark of the row last given is absent.
-fn absent_mark<S: TreeSource>(source: &S, row: &RowHead, count: usize) -> bool
-    requires given { is_some (given (S.TreeSource.reading source.now)) ≡ true }
-    requires row { row.now ≡ head (last_row (S.TreeSource.reading source.now)) }
-    ensures { result ≡ absent_in count (last_row (S.TreeSource.reading source.now)).marks }
+// Whether what belongs to a Leaf is wrong in a row.
+fn wrong_leaf<S: TreeSource>(row: &GivenRow<S>, count: usize) -> bool
+    ensures { result ≡ wrong_leaf count row.now }
 {
-    for i in 0..row.marks {
-        if let Some(id) = source.mark(i) {
-            if id.0 as usize >= count {
-                return true;
-            }
-        }
-    }
-    false
-}
-
-// Whether what belongs to a Leaf is wrong in the row last given.
-fn wrong_leaf<S: TreeSource>(source: &S, row: &RowHead, count: usize) -> bool
-    requires given { is_some (given (S.TreeSource.reading source.now)) ≡ true }
-    requires row { row.now ≡ head (last_row (S.TreeSource.reading source.now)) }
-    ensures { result ≡ wrong_leaf count (last_row (S.TreeSource.reading source.now)) }
-{
-    row.kind > 41
-        || wrong_mode(row.kind, row.mode)
-        || wrong_marks(row.kind, row.marks)
-        || absent_operand(source, row, count)
-        || absent_mark(source, row, count)
+    let head = row.head();
+    let Ok(kind) = Kind::try_from(head.kind) else {
+        return true;
+    };
+    wrong_mode(kind, head.mode)
+        || wrong_marks(kind, head.marks)
+        || absent_in(row.operands(), count)
+        || absent_in(row.marks(), count)
 }
 
 // Whether what belongs to a Leaf is 0 or empty.
@@ -145,20 +142,16 @@ fn leafless(row: &RowHead) -> bool
     row.kind == 0 && row.mode == 0 && row.operands == 0 && row.marks == 0
 }
 
-// Whether a field of the row last given is wrong.
-pub fn wrong_fields<S: TreeSource>(source: &S, row: &RowHead, sizes: Sizes) -> bool
-    requires given { is_some (given (S.TreeSource.reading source.now)) ≡ true }
-    requires row { row.now ≡ head (last_row (S.TreeSource.reading source.now)) }
-    ensures { result ≡ wrong_fields sizes (last_row (S.TreeSource.reading source.now)) }
+// Whether a field of a row of this code is wrong.
+pub fn wrong_fields<S: TreeSource>(row: &GivenRow<S>, code: Code, sizes: Sizes) -> bool
+    requires { code_number code ≡ row.now.code }
+    ensures { result ≡ wrong_fields sizes row.now }
 {
-    if wrong_identifier(sizes.identifiers, row.code, row.identifier)
-        || wrong_number(sizes, row.code, row.kind, row.number)
-    {
-        return true;
-    }
-    if row.is(Code::Leaf) {
-        wrong_leaf(source, row, sizes.identifiers)
-    } else {
-        !leafless(row)
-    }
+    let head = row.head();
+    wrong_identifier(sizes.identifiers, code, head.identifier)
+        || wrong_number(sizes, code, head)
+        || match code {
+            Code::Leaf => wrong_leaf(row, sizes.identifiers),
+            _ => !leafless(head),
+        }
 }

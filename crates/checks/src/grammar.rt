@@ -1,7 +1,8 @@
 // Which children a row may have, in order.
 ghost use Rattle.std.specs.Prelude.{◌≡◌};
 ghost use Rattle.std.specs.Option.{option_map};
-ghost use Rattle.checks.specs.Grammar.{between, admits, sort, required, repeats, children, follow, lacking};
+ghost use Rattle.reactive.specs.Codes.{code_number};
+ghost use Rattle.checks.specs.Grammar.{admits, sort, required, repeats, children, follow, lacking};
 
 use reactive::code::Code;
 
@@ -24,29 +25,39 @@ pub enum Slot {
     Many(Sort),
 }
 
-// Whether a number is at least `low` and at most `high`.
-pub fn between(low: u8, high: u8, number: u8) -> bool
-    ensures { result ≡ between low high number }
-{
-    low <= number && number <= high
-}
-
 impl Sort {
     // Whether a row of this code is of the sort.
-    pub fn admits(self, code: u8) -> bool
-        ensures { result ≡ admits self code }
+    pub fn admits(self, code: Code) -> bool
+        ensures { result ≡ admits self (code_number code) }
     {
         match self {
-            Sort::Block => code == Code::Block as u8,
-            Sort::Statement => {
-                between(Code::Instruction as u8, Code::Pruned as u8, code)
-                    || between(Code::Break as u8, Code::Switch as u8, code)
-                    || between(Code::DoWhile as u8, Code::Try as u8, code)
-            }
-            Sort::Instruction => code == Code::Instruction as u8,
-            Sort::Value => between(Code::Leaf as u8, Code::Optional as u8, code),
-            Sort::Case => code == Code::Case as u8,
-            Sort::Handler => code == Code::Handler as u8,
+            Sort::Block => code == Code::Block,
+            Sort::Statement => matches!(
+                code,
+                Code::Instruction
+                    | Code::Scope
+                    | Code::Pruned
+                    | Code::Break
+                    | Code::Continue
+                    | Code::Return
+                    | Code::Throw
+                    | Code::Switch
+                    | Code::DoWhile
+                    | Code::While
+                    | Code::For
+                    | Code::ForOf
+                    | Code::ForIn
+                    | Code::If
+                    | Code::Label
+                    | Code::Try
+            ),
+            Sort::Instruction => code == Code::Instruction,
+            Sort::Value => matches!(
+                code,
+                Code::Leaf | Code::Logical | Code::Conditional | Code::Sequence | Code::Optional
+            ),
+            Sort::Case => code == Code::Case,
+            Sort::Handler => code == Code::Handler,
         }
     }
 }
@@ -57,9 +68,7 @@ impl Slot {
         ensures { result ≡ sort self }
     {
         match self {
-            Slot::One(sort) => sort,
-            Slot::Optional(sort) => sort,
-            Slot::Many(sort) => sort,
+            Slot::One(sort) | Slot::Optional(sort) | Slot::Many(sort) => sort,
         }
     }
 
@@ -67,20 +76,14 @@ impl Slot {
     fn required(self) -> bool
         ensures { result ≡ required self }
     {
-        match self {
-            Slot::One(_) => true,
-            _ => false,
-        }
+        matches!(self, Slot::One(_))
     }
 
     // Whether the place stays after a child.
     fn repeats(self) -> bool
         ensures { result ≡ repeats self }
     {
-        match self {
-            Slot::Many(_) => true,
-            _ => false,
-        }
+        matches!(self, Slot::Many(_))
     }
 }
 
@@ -90,48 +93,32 @@ const BLOCK: Slot = Slot::One(Sort::Block);
 // One value.
 const VALUE: Slot = Slot::One(Sort::Value);
 
-// The children of each code, from 0 on, which no row has.
-const CHILDREN: [&'static [Slot]; 25] = [
-    &[], // 0
-    &[Slot::Many(Sort::Statement)], // 1 Block
-    &[VALUE], // 2 Instruction
-    &[BLOCK], // 3 Scope
-    &[BLOCK], // 4 Pruned
-    &[], // 5 Leaf
-    &[VALUE, VALUE], // 6 Logical
-    &[VALUE, VALUE, VALUE], // 7 Conditional
-    &[Slot::Many(Sort::Instruction), VALUE], // 8 Sequence
-    &[VALUE], // 9 Optional
-    &[], // 10 Break
-    &[], // 11 Continue
-    &[], // 12 Return
-    &[], // 13 Throw
-    &[Slot::Many(Sort::Case)], // 14 Switch
-    &[Slot::Optional(Sort::Block)], // 15 Case
-    &[BLOCK, VALUE], // 16 DoWhile
-    &[VALUE, BLOCK], // 17 While
-    &[VALUE, VALUE, BLOCK, Slot::Optional(Sort::Value)], // 18 For
-    &[VALUE, VALUE, BLOCK], // 19 ForOf
-    &[VALUE, BLOCK], // 20 ForIn
-    &[BLOCK, Slot::Optional(Sort::Block)], // 21 If
-    &[BLOCK], // 22 Label
-    &[BLOCK, Slot::One(Sort::Handler)], // 23 Try
-    &[BLOCK], // 24 Handler
-];
-
 // The places of a row of this code.
-pub fn children(code: u8) -> &'static [Slot]
-    ensures { result.now ≡ children code }
+pub fn children(code: Code) -> &'static [Slot]
+    ensures { result.now ≡ children (code_number code) }
 {
-    if code as usize >= CHILDREN.len() {
-        return &[];
+    match code {
+        Code::Block => &[Slot::Many(Sort::Statement)],
+        Code::Instruction | Code::Optional => &[VALUE],
+        Code::Scope | Code::Pruned | Code::Label | Code::Handler => &[BLOCK],
+        Code::Leaf | Code::Break | Code::Continue | Code::Return | Code::Throw => &[],
+        Code::Logical => &[VALUE, VALUE],
+        Code::Conditional => &[VALUE, VALUE, VALUE],
+        Code::Sequence => &[Slot::Many(Sort::Instruction), VALUE],
+        Code::Switch => &[Slot::Many(Sort::Case)],
+        Code::Case => &[Slot::Optional(Sort::Block)],
+        Code::DoWhile => &[BLOCK, VALUE],
+        Code::While | Code::ForIn => &[VALUE, BLOCK],
+        Code::For => &[VALUE, VALUE, BLOCK, Slot::Optional(Sort::Value)],
+        Code::ForOf => &[VALUE, VALUE, BLOCK],
+        Code::If => &[BLOCK, Slot::Optional(Sort::Block)],
+        Code::Try => &[BLOCK, Slot::One(Sort::Handler)],
     }
-    CHILDREN[code as usize]
 }
 
 // The places that are left after a child of this code, or none where it may not come.
-pub fn follow(slots: &'static [Slot], code: u8) -> Option<&'static [Slot]>
-    ensures { option_map (λ x. x.now) result ≡ follow slots.now code }
+pub fn follow(slots: &'static [Slot], code: Code) -> Option<&'static [Slot]>
+    ensures { option_map (λ x. x.now) result ≡ follow slots.now (code_number code) }
 {
     for (i, slot) in slots.iter().enumerate() {
         if slot.sort().admits(code) {
@@ -149,10 +136,5 @@ pub fn follow(slots: &'static [Slot], code: u8) -> Option<&'static [Slot]>
 pub fn lacking(slots: &[Slot]) -> bool
     ensures { result ≡ lacking slots.now }
 {
-    for slot in slots {
-        if slot.required() {
-            return true;
-        }
-    }
-    false
+    slots.iter().any(|slot| slot.required())
 }

@@ -11,15 +11,14 @@ use crate::stack::Stack;
 use hir::environment::Environment;
 use hir::refusal::Refusal;
 use hir::scratch::Scratch;
+use hir::span::LONGEST_LIST;
 use reactive::code::Code;
+use reactive::given::GivenRow;
 use reactive::row::RowHead;
 use reactive::source::TreeSource;
 
 // The most rows of a tree.
 const MOST_ROWS: usize = 262144;
-
-// The longest list of a row.
-const LONGEST_LIST: usize = 4096;
 
 // The greatest depth of a row: the stack holds one row more.
 const DEEPEST: u32 = 127;
@@ -28,7 +27,8 @@ const DEEPEST: u32 = 127;
 fn passes_limit(seen: usize, row: &RowHead) -> bool
     ensures { result ≡ row_passes_limit seen row.now }
 {
-    seen >= MOST_ROWS || row.operands > LONGEST_LIST || row.marks > LONGEST_LIST
+    let longest = LONGEST_LIST as usize;
+    seen >= MOST_ROWS || row.operands > longest || row.marks > longest
 }
 
 // What is wrong with the rows of a source at its start, and else how many are Scope rows.
@@ -47,10 +47,11 @@ fn check_all<S: TreeSource>(source: &mut S, sizes: Sizes) -> Result<usize, Refus
         if row.depth > DEEPEST {
             return Err(Refusal::Depth);
         }
-        if !stack.enter(row.depth as usize, row.code) {
+        let Ok(code) = Code::try_from(row.code) else {
             return Err(Refusal::Shape);
-        }
-        if wrong_fields(source, &row, sizes) {
+        };
+        stack.enter(row.depth as usize, code)?;
+        if wrong_fields(&GivenRow::new(row, source), code, sizes) {
             return Err(Refusal::Field);
         }
         if row.is(Code::Scope) {

@@ -1,100 +1,106 @@
 // The rows that are open while rows are checked.
-ghost use Rattle.std.specs.Prelude.{◌≡◌, ◌<◌, ◌≤◌, [], if◌then◌else◌, Some, None};
-ghost use Rattle.hir.specs.Lists.{some};
+ghost use Rattle.std.specs.Prelude.{◌≡◌, ◌<◌, ◌≤◌, [], length, Some, OnOk};
+ghost use Rattle.std.specs.List.{list_any};
 ghost use Rattle.hir.specs.Refusals.{answered};
+ghost use Rattle.reactive.specs.Codes.{code_number};
 ghost use Rattle.checks.specs.Grammar.{lacking};
-ghost use Rattle.checks.specs.Rows.{wrong_depth, closing, staying, placed, opened, ended};
-ghost use Rattle.checks.specs.Stacks.{open_rows};
+ghost use Rattle.checks.specs.Rows.{wrong_depth, closing, placed, opened, unplaced, ended};
 
 use crate::grammar::{Slot, children, follow, lacking};
+use arrayvec::ArrayVec;
 use hir::refusal::Refusal;
 use reactive::code::Code;
+use std::marker::Model;
+
+// How many rows may be open at once.
+const DEPTH: usize = 128;
 
 // The open rows, outermost first, each as the places that it has left.
 #[derive(Drop)]
 pub struct Stack {
-    rows: [&'static [Slot]; 128],
-    height: usize,
+    rows: ArrayVec<&'static [Slot], DEPTH>,
+}
+
+impl Model for Stack {
+    ghost use Rattle.std.specs.Prelude.{List, map, reverse};
+    ghost use Rattle.checks.specs.declared.grammar.Slot.{Slot};
+
+    ghost Value = { List (List Slot) };
+
+    ghost view = { λ s. reverse (map (λ x. x.now) s.rows.items) };
 }
 
 impl Stack {
     // No open row.
     pub fn new() -> Stack
-        ensures rows { open_rows result ≡ [] }
-        ensures high { result.height ≤ 128 }
+        ensures { result ≡ [] }
     {
         Stack {
-            rows: [&[]; 128],
-            height: 0,
+            rows: ArrayVec::new(),
         }
     }
 
     // Whether a row may not have this depth: row 0 has depth 0, a later one lies in it, at most one deeper than the row before.
     fn wrong_depth(&self, depth: usize) -> bool
-        ensures { result ≡ wrong_depth (open_rows self.now) depth }
+        ensures { result ≡ wrong_depth self.now depth }
     {
-        if self.height == 0 {
-            depth > 0
-        } else {
-            depth == 0 || depth > self.height
+        match self.rows.len() {
+            0 => depth > 0,
+            height => depth == 0 || depth > height,
         }
     }
 
     // Whether a row that one of this depth closes lacks a child.
     fn lacks(&self, depth: usize) -> bool
-        requires { self.now.height ≤ 128 }
-        ensures { result ≡ some lacking (closing (open_rows self.now) depth) }
+        requires { depth ≤ length self.now }
+        ensures { result ≡ list_any lacking (closing self.now depth) }
     {
-        for i in (depth..self.height).rev() {
-            if lacking(self.rows[i]) {
+        for slots in &self.rows[depth..] {
+            if lacking(slots) {
                 return true;
             }
         }
         false
     }
 
-    // Puts a row of this code within the first `depth` rows, where it has its place there.
-    fn place(&mut self, depth: usize, code: u8) -> bool
-        requires high { self.old.height ≤ 128 }
-        requires low { depth < 128 }
-        requires within { depth ≤ self.old.height }
-        ensures value { placed (staying (open_rows self.old) depth) code ≡ (if result then Some (open_rows self.new) else None) }
-        ensures high { self.new.height ≤ 128 }
+    // Puts a row of this code within the open rows, where it has its place there.
+    fn place(&mut self, code: Code) -> Result<(), Refusal>
+        requires { length self.old < 128 }
+        ensures value { result ≡ answered (unplaced (placed self.old (code_number code))) tt }
+        ensures rows { OnOk result (placed self.old (code_number code) ≡ Some self.new) }
     {
-        if depth == 0 {
-            if code != Code::Block as u8 {
-                return false;
+        match self.rows.pop() {
+            Some(slots) => {
+                let Some(rest) = follow(slots, code) else {
+                    return Err(Refusal::Shape);
+                };
+                self.rows.push(rest);
             }
-        } else {
-            let Some(rest) = follow(self.rows[depth - 1], code) else {
-                return false;
-            };
-            self.rows[depth - 1] = rest;
+            None if code != Code::Block => return Err(Refusal::Shape),
+            None => {}
         }
-        self.rows[depth] = children(code);
-        self.height = depth + 1;
-        true
+        self.rows.push(children(code));
+        Ok(())
     }
 
     // Opens a row, where its depth and code and the children of the rows that it closes are right.
-    pub fn enter(&mut self, depth: usize, code: u8) -> bool
-        requires high { self.old.height ≤ 128 }
-        requires low { depth < 128 }
-        ensures value { opened (open_rows self.old) depth code ≡ (if result then Some (open_rows self.new) else None) }
-        ensures high { self.new.height ≤ 128 }
+    pub fn enter(&mut self, depth: usize, code: Code) -> Result<(), Refusal>
+        requires { depth < 128 }
+        ensures value { result ≡ answered (unplaced (opened self.old depth (code_number code))) tt }
+        ensures rows { OnOk result (opened self.old depth (code_number code) ≡ Some self.new) }
     {
         if self.wrong_depth(depth) || self.lacks(depth) {
-            return false;
+            return Err(Refusal::Shape);
         }
-        self.place(depth, code)
+        self.rows.truncate(depth);
+        self.place(code)
     }
 
     // Refuses where there is no row at all, or an open one lacks a child.
     pub fn finish(&self) -> Result<(), Refusal>
-        requires { self.now.height ≤ 128 }
-        ensures { result ≡ answered (ended (open_rows self.now)) tt }
+        ensures { result ≡ answered (ended self.now) tt }
     {
-        if self.height == 0 || self.lacks(0) {
+        if self.rows.is_empty() || self.lacks(0) {
             return Err(Refusal::Shape);
         }
         Ok(())

@@ -1,28 +1,22 @@
 // Faults of the tables, the own parameters and the scratch.
 ghost use Rattle.std.specs.Prelude.{◌≡◌, length, nat_le};
 ghost use Rattle.hir.specs.Environments.{model, unnamed};
-ghost use Rattle.hir.specs.Lists.{some};
+ghost use Rattle.std.specs.List.{list_any};
 ghost use Rattle.hir.specs.Refusals.{answered};
 ghost use Rattle.hir.specs.Scratches.{noted};
 ghost use Rattle.checks.specs.Tables.{long_list, long_scope, long_function, passes_limit, bad_row, bad_list, bad_scope, bad_function, bad_lists, no_room, little_scratch, tables_refusal};
 
-use hir::environment::Environment;
+use hir::environment::{Environment, MOST_IDENTIFIERS};
 use hir::refusal::Refusal;
 use hir::scratch::Scratch;
-use hir::span::Span;
+use hir::span::{LONGEST_LIST, Span};
 use hir::tables::{Function, Identifier, Scope};
-
-// The most identifiers.
-const MOST_IDENTIFIERS: usize = 65536;
 
 // The most scopes.
 const MOST_SCOPES: usize = 16384;
 
 // The most functions.
 const MOST_FUNCTIONS: usize = 4096;
-
-// The longest list.
-const LONGEST_LIST: u32 = 4096;
 
 // The highest tag of an identifier.
 const HIGHEST_TAG: u8 = 3;
@@ -50,26 +44,16 @@ fn long_function(function: Function) -> bool
 
 // Whether a list of some scope is too long.
 fn some_long_scope(scopes: &[Scope]) -> bool
-    ensures { result ≡ some long_scope scopes.now }
+    ensures { result ≡ list_any long_scope scopes.now }
 {
-    for scope in scopes {
-        if long_scope(*scope) {
-            return true;
-        }
-    }
-    false
+    scopes.iter().any(|scope| long_scope(*scope))
 }
 
 // Whether a list of some function is too long.
 fn some_long_function(functions: &[Function]) -> bool
-    ensures { result ≡ some long_function functions.now }
+    ensures { result ≡ list_any long_function functions.now }
 {
-    for function in functions {
-        if long_function(*function) {
-            return true;
-        }
-    }
-    false
+    functions.iter().any(|function| long_function(*function))
 }
 
 // Whether the tables or a list pass a limit.
@@ -93,19 +77,17 @@ fn bad_row(count: usize, identifier: Identifier) -> bool
 
 // Whether some identifier's row is bad.
 fn some_bad_row(identifiers: &[Identifier]) -> bool
-    ensures { result ≡ some (bad_row (length identifiers.now)) identifiers.now }
+    ensures { result ≡ list_any (bad_row (length identifiers.now)) identifiers.now }
 {
-    for identifier in identifiers {
-        if bad_row(identifiers.len(), *identifier) {
-            return true;
-        }
-    }
-    false
+    let count = identifiers.len();
+    identifiers
+        .iter()
+        .any(|identifier| bad_row(count, *identifier))
 }
 
 // Whether some number is not below the count.
 fn some_absent(count: usize, numbers: &[u32]) -> bool
-    ensures { result ≡ some (nat_le count) numbers.now }
+    ensures { result ≡ list_any (nat_le count) numbers.now }
 {
     for number in numbers {
         if *number as usize >= count {
@@ -140,26 +122,19 @@ fn bad_function(count: usize, functions: usize, pool: &[u32], function: Function
 
 // Whether a list of some scope is bad.
 fn some_bad_scope(count: usize, pool: &[u32], scopes: &[Scope]) -> bool
-    ensures { result ≡ some (bad_scope count pool.now) scopes.now }
+    ensures { result ≡ list_any (bad_scope count pool.now) scopes.now }
 {
-    for scope in scopes {
-        if bad_scope(count, pool, *scope) {
-            return true;
-        }
-    }
-    false
+    scopes.iter().any(|scope| bad_scope(count, pool, *scope))
 }
 
 // Whether a list of some function is bad.
 fn some_bad_function(count: usize, pool: &[u32], functions: &[Function]) -> bool
-    ensures { result ≡ some (bad_function count (length functions.now) pool.now) functions.now }
+    ensures { result ≡ list_any (bad_function count (length functions.now) pool.now) functions.now }
 {
-    for function in functions {
-        if bad_function(count, functions.len(), pool, *function) {
-            return true;
-        }
-    }
-    false
+    let nested = functions.len();
+    functions
+        .iter()
+        .any(|function| bad_function(count, nested, pool, *function))
 }
 
 // Whether a list of a scope, of a function or of the own parameters is bad.
@@ -176,13 +151,10 @@ fn bad_lists(env: &Environment, parameters: Span) -> bool
 fn count_unnamed(identifiers: &[Identifier]) -> usize
     ensures { result ≡ unnamed identifiers.now }
 {
-    let mut count: usize = 0;
-    for identifier in identifiers {
-        if identifier.tag == 0 {
-            count += 1;
-        }
-    }
-    count
+    identifiers
+        .iter()
+        .filter(|identifier| identifier.tag == 0)
+        .count()
 }
 
 // Whether the journal lacks a free row for each identifier that has no name.

@@ -2,13 +2,13 @@
 use Rattle.std.proofs.Common.{◌≡◌, ℕ, zero, suc, ◌-◌, ◌<◌, ◌≤◌, Bool, true, false, ◌||◌, eqb, List, [], ◌∷◌, length, get_or, sym, refl, ap, ◌∙◌, arith}
 use Rattle.std.proofs.lemmas.Bool.{eq-eqb, ne_eqb}
 use Rattle.hir.specs.declared.scratch.Trail.{Trail}
-use Rattle.hir.specs.Lists.{some}
+use Rattle.std.specs.List.{list_any}
 use Rattle.hir.specs.Scratches.{no_trail}
 use Rattle.collect.specs.Links.{trail_of, along, is_along, Leads}
 
 -- a scope is among the first along a link
 abbrev pub is_first : ℕ → List Trail → ℕ → ℕ → Bool
-is_first fuel trail l s = some (λ x. eqb x s) (along fuel trail l)
+is_first fuel trail l s = list_any (λ x. eqb x s) (along fuel trail l)
 
 -- of the way along a link, this is still to be looked at
 pub record Following (trail : List Trail) (s link at : ℕ) : Type 0 where
@@ -30,7 +30,7 @@ along_next (suc fuel) trail (suc j) h k =
 
 module _ (trail : List Trail) (s link at : ℕ) (inv : Following trail s link at) where
   next : 0 < at → is_along trail link s ≡ (eqb (trail_of trail at).scope.0 s || is_first (inv.fuel - 1) trail (trail_of trail at).link s)
-  next h = inv.same ∙ ap (some (λ x. eqb x s)) (along_next inv.fuel trail at h inv.enough)
+  next h = inv.same ∙ ap (list_any (λ x. eqb x s)) (along_next inv.fuel trail at h inv.enough)
 
   pub following_within : Leads trail link → 0 < at → at - 1 < length trail
   following_within leads h = omega (arith, inv.below, leads.within)
@@ -57,4 +57,4 @@ along_end (suc fuel) trail zero e = refl
 along_end (suc fuel) trail (suc j) e = absurd (omega arith)
 
 pub following_all : (trail : List Trail) (s link at : ℕ) → Following trail s link at → at ≡ 0 → false ≡ is_along trail link s
-following_all trail s link at inv e = sym (inv.same ∙ ap (some (λ x. eqb x s)) (along_end inv.fuel trail at e))
+following_all trail s link at inv e = sym (inv.same ∙ ap (list_any (λ x. eqb x s)) (along_end inv.fuel trail at e))

@@ -1,7 +1,7 @@
 -- The scopes that were active where a trail row was appended. Assumes nothing.
 use Rattle.std.specs.Prelude.{ℕ, zero, suc, ◌-◌, ◌<◌, ◌≤◌, Bool, List, [], ◌∷◌, length, get_or, nat_eq, slice_index_or}
 use Rattle.hir.specs.declared.scratch.Trail.{Trail}
-use Rattle.hir.specs.Lists.{some}
+use Rattle.std.specs.List.{list_any}
 use Rattle.hir.specs.Scratches.{no_trail}
 
 -- the trail row that a link other than 0 leads to
@@ -20,7 +20,7 @@ scopes_along trail l = along l trail l
 
 -- a scope is among those along a link
 abbrev pub is_along : List Trail → ℕ → ℕ → Bool
-is_along trail l s = some (λ x. nat_eq x s) (scopes_along trail l)
+is_along trail l s = list_any (λ x. nat_eq x s) (scopes_along trail l)
 
 -- a link leads along trail rows, each to an earlier one
 pub record Leads (trail : List Trail) (l : ℕ) : Type 0 where

@@ -1,10 +1,5 @@
--- Tests and folds over lists. Assumes nothing.
-use Rattle.std.specs.Prelude.{Bool, false, ◌||◌, List, [], ◌∷◌}
-
--- some element passes a test
-abbrev pub some : {A : Type 0} → (A → Bool) → List A → Bool
-some p [] = false
-some p (x ∷ xs) = p x || some p xs
+-- What holds of each element, and folds over lists. Assumes nothing.
+use Rattle.std.specs.Prelude.{List, [], ◌∷◌}
 
 -- what holds of each element
 abbrev pub Each : {A : Type 0} → (A → Type 0) → List A → Type 0

@@ -1,6 +1,9 @@
 ghost use Rattle.std.specs.Prelude.{◌≡◌};
 ghost use Rattle.hir.specs.Spans.{part};
 
+// The longest list that a run takes.
+pub const LONGEST_LIST: u32 = 4096;
+
 // A list: a part of a pool of numbers.
 #[derive(Clone, Copy)]
 pub struct Span {

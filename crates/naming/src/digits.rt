@@ -9,6 +9,7 @@ pub(crate) fn write_digits(places: &mut [u8], number: u16, base: u16)
     ensures { places.new ≡ last_digits base (length places.old) number }
 {
     let mut rest = number;
+    // Places are counted: behind an adapter of `iter_mut`, as `rev`, nothing is known of what was written.
     for place in (0..places.len()).rev() {
         places[place] = digit_byte((rest % base) as u8);
         rest /= base;

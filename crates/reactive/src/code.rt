@@ -36,7 +36,7 @@ pub enum Code {
 impl TryFrom<u8> for Code {
     type Error = Unknown;
 
-    ghost try_from_gives = { Decodes code_number };
+    ghost try_from_gives = { Decodes code_number 1 24 };
 
     fn try_from(byte: u8) -> Result<Code, Unknown> {
         match byte {

@@ -54,7 +54,7 @@ pub enum Kind {
 impl TryFrom<u8> for Kind {
     type Error = Unknown;
 
-    ghost try_from_gives = { Decodes kind_number };
+    ghost try_from_gives = { Decodes kind_number 0 41 };
 
     fn try_from(byte: u8) -> Result<Kind, Unknown> {
         match byte {

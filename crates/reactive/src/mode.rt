@@ -20,7 +20,7 @@ pub enum Mode {
 impl TryFrom<u8> for Mode {
     type Error = Unknown;
 
-    ghost try_from_gives = { Decodes mode_number };
+    ghost try_from_gives = { Decodes mode_number 0 7 };
 
     fn try_from(byte: u8) -> Result<Mode, Unknown> {
         match byte {

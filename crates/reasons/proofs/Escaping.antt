@@ -5,7 +5,8 @@ use Rattle.std.proofs.lemmas.Bool.{cases_Bool, cases_eq, cases_lt, cases_order, 
 use Rattle.hir.specs.declared.ids.IdentifierId.{IdentifierId}
 use Rattle.hir.specs.declared.ids.ScopeId.{ScopeId}
 use Rattle.hir.specs.Environments.{Model, declaration_of, scope_of}
-use Rattle.hir.specs.Lists.{some, over}
+use Rattle.hir.specs.Lists.{over}
+use Rattle.std.specs.List.{list_any}
 use Rattle.hir.specs.Spans.{identifiers_in}
 use Rattle.collect.specs.Promotable as collect
 use Rattle.reasons.specs.Escapes.{Seen, never, since, Known, nothing, among, outside, used, recorded, act, has_escaped}
@@ -23,19 +24,19 @@ all_active : (m : Model) (s : Known) (is : List IdentifierId) → (over (recorde
 all_active m s [] = refl
 all_active m s (i ∷ is) = all_active m (recorded m s i) is
 
-all_recorded : (m : Model) (d : ℕ) (s : Known) (is : List IdentifierId) → (over (recorded m) s is).seen d ≡ cond (some (λ i. eqb (declaration_of m i.0) d) is) (since s.active false) (s.seen d)
+all_recorded : (m : Model) (d : ℕ) (s : Known) (is : List IdentifierId) → (over (recorded m) s is).seen d ≡ cond (list_any (λ i. eqb (declaration_of m i.0) d) is) (since s.active false) (s.seen d)
 all_recorded m d s [] = refl
 all_recorded m d s (i ∷ is) =
     all_recorded m d (recorded m s i) is
     ∙ ⊎_elim
     (λ e.
     let q : d ≡ declaration_of m i.0 = sym (eqb-true (declaration_of m i.0) d e) in
-    ap (cond (some (λ x. eqb (declaration_of m x.0) d) is) (since s.active false)) (cond-true _ _ _ (eq-eqb d (declaration_of m i.0) q))
-    ∙ both (some (λ x. eqb (declaration_of m x.0) d) is) (since s.active false)
-    ∙ sym (cond-true _ _ _ (ap (λ b. b || some (λ x. eqb (declaration_of m x.0) d) is) e)))
+    ap (cond (list_any (λ x. eqb (declaration_of m x.0) d) is) (since s.active false)) (cond-true _ _ _ (eq-eqb d (declaration_of m i.0) q))
+    ∙ both (list_any (λ x. eqb (declaration_of m x.0) d) is) (since s.active false)
+    ∙ sym (cond-true _ _ _ (ap (λ b. b || list_any (λ x. eqb (declaration_of m x.0) d) is) e)))
     (λ e.
-    ap (cond (some (λ x. eqb (declaration_of m x.0) d) is) (since s.active false)) (cond-false _ _ _ (ne_eqb d (declaration_of m i.0) (λ q. true_false _ (eq-eqb (declaration_of m i.0) d (sym q)) e)))
-    ∙ ap (λ b. cond (b || some (λ x. eqb (declaration_of m x.0) d) is) (since s.active false) (s.seen d)) (sym e))
+    ap (cond (list_any (λ x. eqb (declaration_of m x.0) d) is) (since s.active false)) (cond-false _ _ _ (ne_eqb d (declaration_of m i.0) (λ q. true_false _ (eq-eqb (declaration_of m i.0) d (sym q)) e)))
+    ∙ ap (λ b. cond (b || list_any (λ x. eqb (declaration_of m x.0) d) is) (since s.active false) (s.seen d)) (sym e))
     (cases_Bool (eqb (declaration_of m i.0) d))
   where
     both : (b : Bool) (x : Seen) → cond b x x ≡ x

@@ -3,7 +3,8 @@ use Rattle.std.proofs.Common.{◌≡◌, ℕ, zero, suc, ◌<◌, ◌≤◌, Boo
 use Rattle.std.proofs.lemmas.List.{get_or_past}
 use Rattle.std.proofs.lemmas.Bool.{cases_Bool, cases_eq, cases_lt, cases_order, cond-true, cond-false, cond_both, eqb-true, or_cases, and_parts}
 use Rattle.hir.specs.declared.ids.IdentifierId.{IdentifierId}
-use Rattle.hir.specs.Lists.{some, over}
+use Rattle.hir.specs.Lists.{over}
+use Rattle.std.specs.List.{list_any}
 use Rattle.hir.specs.Spans.{ident}
 use Rattle.interposed.specs.Acts as third
 use Rattle.reasons.specs.Interposed.{Known, finds, fixing, globally, tracking, raising, if, act, nothing, interposed}
@@ -64,7 +65,7 @@ turns x s (third.barrier (Some l)) = turns_barrier x s (s.named l.0)
 turns x s (third.tracks l) = turns_tracking x l.0 s s s (s.named l.0) refl refl refl refl
 
 among : ℕ → List IdentifierId → Bool
-among x is = some (λ (i : IdentifierId). eqb x i.0) is
+among x is = list_any (λ (i : IdentifierId). eqb x i.0) is
 
 -- x is found by an act that uses it while it is unnamed, not constant and exposed
 due : Known → ℕ → Bool
@@ -207,10 +208,10 @@ module _ (named : ℕ → Bool) (acts : List third.Act) (x : ℕ) where
   all_taken : (at (length acts)).found ≡ interposed named acts
   all_taken = ap (λ xs. (over act (nothing named) xs).found) (take_all (length acts) acts (omega arith))
 
-  pub found_said : some (λ (i : IdentifierId). eqb x i.0) (interposed named acts) ≡ true → Found named acts x
+  pub found_said : list_any (λ (i : IdentifierId). eqb x i.0) (interposed named acts) ≡ true → Found named acts x
   unfolding among
   found_said e = said (length acts) (omega arith) (ap (among x) all_taken ∙ e)
 
-  pub found_heard : Found named acts x → some (λ (i : IdentifierId). eqb x i.0) (interposed named acts) ≡ true
+  pub found_heard : Found named acts x → list_any (λ (i : IdentifierId). eqb x i.0) (interposed named acts) ≡ true
   unfolding among
   found_heard f = ap (among x) (sym all_taken) ∙ heard (length acts) f.place (omega arith) (within f.place f.found) f.found

@@ -8,7 +8,8 @@ use Rattle.hir.specs.declared.tables.JournalRow.{JournalRow}
 use Rattle.hir.specs.declared.tables.Reason.{Reason}
 use Rattle.hir.specs.declared.tables.Reason.TheVariants as reasons
 use Rattle.hir.specs.Environments.{Model, declaration_of, scope_of, function_of}
-use Rattle.hir.specs.Lists.{some, over, Each}
+use Rattle.hir.specs.Lists.{over, Each}
+use Rattle.std.specs.List.{list_any}
 use Rattle.hir.specs.Spans.{identifiers_in, functions_in}
 use Rattle.reactive.specs.Rows.{Row}
 use Rattle.walk.proofs.Fitting.{each_append}
@@ -149,7 +150,7 @@ other_first i (r ∷ xs) h e =
     (cases_Bool (eqb i r.identifier.0))
 
 -- coverings for one reason, of the identifiers that a test keeps
-first_filtered : (m : Model) (why : Reason) (done : ℕ → Bool) (i : ℕ) (is : List IdentifierId) → first_reason i (covers why (filter (λ x. done (declaration_of m x.0)) is)) ≡ cond (some (λ (x : IdentifierId). eqb i x.0) is && done (declaration_of m i)) (Some why) None
+first_filtered : (m : Model) (why : Reason) (done : ℕ → Bool) (i : ℕ) (is : List IdentifierId) → first_reason i (covers why (filter (λ x. done (declaration_of m x.0)) is)) ≡ cond (list_any (λ (x : IdentifierId). eqb i x.0) is && done (declaration_of m i)) (Some why) None
 first_filtered m why done i [] = refl
 first_filtered m why done i (x ∷ is) =
     ⊎_elim
@@ -158,10 +159,10 @@ first_filtered m why done i (x ∷ is) =
     ∙ ⊎_elim
     (λ same.
     let q : done (declaration_of m i) ≡ true = ap (λ n. done (declaration_of m n)) (eqb-true i x.0 same) ∙ keeps in
-    cond-true _ _ _ same ∙ sym (cond-true _ _ _ (λ k. (same k || some (λ (y : IdentifierId). eqb i y.0) is) && q k)))
+    cond-true _ _ _ same ∙ sym (cond-true _ _ _ (λ k. (same k || list_any (λ (y : IdentifierId). eqb i y.0) is) && q k)))
     (λ other.
     cond-false _ _ _ other ∙ first_filtered m why done i is
-    ∙ ap (λ b. cond ((b || some (λ (y : IdentifierId). eqb i y.0) is) && done (declaration_of m i)) (Some why) None) (sym other))
+    ∙ ap (λ b. cond ((b || list_any (λ (y : IdentifierId). eqb i y.0) is) && done (declaration_of m i)) (Some why) None) (sym other))
     (cases_Bool (eqb i x.0)))
     (λ drops.
     ap (λ xs. first_reason i (covers why xs)) (cond-false _ _ _ drops)
@@ -169,9 +170,9 @@ first_filtered m why done i (x ∷ is) =
     ∙ ⊎_elim
     (λ same.
     let q : done (declaration_of m i) ≡ false = ap (λ n. done (declaration_of m n)) (eqb-true i x.0 same) ∙ drops in
-    cond-false _ _ _ (ap (λ b. some (λ (y : IdentifierId). eqb i y.0) is && b) q ∙ and_false _)
-    ∙ sym (cond-false _ _ _ (ap (λ b. (eqb i x.0 || some (λ (y : IdentifierId). eqb i y.0) is) && b) q ∙ and_false _)))
-    (λ other. ap (λ b. cond ((b || some (λ (y : IdentifierId). eqb i y.0) is) && done (declaration_of m i)) (Some why) None) (sym other))
+    cond-false _ _ _ (ap (λ b. list_any (λ (y : IdentifierId). eqb i y.0) is && b) q ∙ and_false _)
+    ∙ sym (cond-false _ _ _ (ap (λ b. (eqb i x.0 || list_any (λ (y : IdentifierId). eqb i y.0) is) && b) q ∙ and_false _)))
+    (λ other. ap (λ b. cond ((b || list_any (λ (y : IdentifierId). eqb i y.0) is) && done (declaration_of m i)) (Some why) None) (sym other))
     (cases_Bool (eqb i x.0)))
     (cases_Bool (done (declaration_of m x.0)))
 

@@ -6,7 +6,8 @@ use Rattle.hir.specs.declared.ids.ScopeId.{ScopeId}
 use Rattle.hir.specs.declared.scratch.Trail.{Trail}
 use Rattle.hir.specs.declared.scratch.Work.{Work}
 use Rattle.hir.specs.Environments.{Model, declaration_of, scope_of}
-use Rattle.hir.specs.Lists.{Each, some, over}
+use Rattle.hir.specs.Lists.{Each, over}
+use Rattle.std.specs.List.{list_any}
 use Rattle.hir.specs.Scratches.{Notes, Tables, both, no_work, no_trail, work_of}
 use Rattle.hir.specs.Sound.{Known}
 use Rattle.hir.specs.Spans.{identifiers_in}
@@ -39,7 +40,7 @@ chain_along ends (suc fuel) h = refl
 chain_along (links j a d c) zero h = absurd (omega arith)
 chain_along {trail} (links j a d c) (suc fuel) h = ap (λ xs. (get_or trail j no_trail).scope.0 ∷ xs) (chain_along c fuel (omega arith))
 
-among_is : (n : ℕ) (ss : List ScopeId) → some (λ x. eqb x n) (numbers ss) ≡ some (λ (x : ScopeId). eqb x.0 n) ss
+among_is : (n : ℕ) (ss : List ScopeId) → list_any (λ x. eqb x n) (numbers ss) ≡ list_any (λ (x : ScopeId). eqb x.0 n) ss
 unfolding numbers
 among_is n [] = refl
 among_is n (s ∷ ss) = ap (λ b. eqb s.0 n || b) (among_is n ss)
@@ -187,7 +188,7 @@ module _ (m : Model) (static : Static m) where
       let back : suc j - 1 ≡ j = omega arith in
       ap (λ x. not x && not (is_along trail r (trail_of trail (suc j)).scope.0)) (ne_eqb (suc j) 0 (omega arith))
       ∙ ap (λ n. not (is_along trail r (get_or trail n no_trail).scope.0)) back
-      ∙ ap (λ xs. not (some (λ x. eqb x (get_or trail j no_trail).scope.0) xs)) (chain_along c r (omega arith))
+      ∙ ap (λ xs. not (list_any (λ x. eqb x (get_or trail j no_trail).scope.0) xs)) (chain_along c r (omega arith))
       ∙ ap not (among_is (get_or trail j no_trail).scope.0 at)
 
   escapes_is : (n : Notes) (used innermost : ℕ) (active : List ScopeId) (seen : known.Seen) (x : Work) → Chain n.trail used innermost active → Agrees n.trail used seen x → table.escapes_at innermost n x ≡ leaves active seen

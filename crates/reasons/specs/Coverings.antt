@@ -7,7 +7,8 @@ use Rattle.hir.specs.declared.tables.JournalRow.{JournalRow}
 use Rattle.hir.specs.declared.tables.Reason.{Reason}
 use Rattle.hir.specs.declared.tables.Reason.TheVariants as reasons
 use Rattle.hir.specs.Environments.{Model, declaration_of, scope_of, function_of}
-use Rattle.hir.specs.Lists.{some, over}
+use Rattle.hir.specs.Lists.{over}
+use Rattle.std.specs.List.{list_any}
 use Rattle.hir.specs.Spans.{identifiers_in, functions_in}
 use Rattle.reactive.specs.declared.code.Code.TheVariants as codes
 use Rattle.reactive.specs.Rows.{Row, is}
@@ -101,7 +102,7 @@ journal m ps rs = firsts (is_named m) (coverings m ps rs)
 
 -- the declaration has the letter T: some Leaf of kind 15 has a mark of it
 abbrev pub upper : Model → List Row → ℕ → Bool
-upper m rs d = some (λ r. (is codes.Leaf r && r.kind == 15) && some (λ i. nat_eq (declaration_of m i.0) d) r.marks) rs
+upper m rs d = list_any (λ r. (is codes.Leaf r && r.kind == 15) && list_any (λ i. nat_eq (declaration_of m i.0) d) r.marks) rs
 
 -- the environment after an accepted run
 abbrev pub ran : Model → Span → List Row → Model

@@ -3,7 +3,8 @@ use Rattle.std.specs.Prelude.{ℕ, Bool, false, cond, not, ◌||◌, List, [], �
 use Rattle.hir.specs.declared.ids.IdentifierId.{IdentifierId}
 use Rattle.hir.specs.declared.ids.ScopeId.{ScopeId}
 use Rattle.hir.specs.Environments.{Model, declaration_of, scope_of}
-use Rattle.hir.specs.Lists.{some, over}
+use Rattle.hir.specs.Lists.{over}
+use Rattle.std.specs.List.{list_any}
 use Rattle.hir.specs.Spans.{identifiers_in}
 use Rattle.reactive.specs.Rows.{Row}
 use Rattle.collect.specs.Promotable.{Act, opens, shuts, prunes, sees, flags, pass_acts}
@@ -23,7 +24,7 @@ nothing = record { active = []; seen = λ d. never }
 
 -- scopes are compared by number
 abbrev pub among : ScopeId → List ScopeId → Bool
-among s ss = some (λ x. nat_eq x.0 s.0) ss
+among s ss = list_any (λ x. nat_eq x.0 s.0) ss
 
 -- some scope is active, and the innermost is none of these
 abbrev pub outside : List ScopeId → List ScopeId → Bool

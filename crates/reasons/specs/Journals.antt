@@ -2,11 +2,12 @@
 use Rattle.std.specs.Prelude.{ℕ, Bool, cond, not, ◌||◌, List, [], ◌∷◌, ◌==◌, nat_eq}
 use Rattle.hir.specs.declared.tables.JournalRow.{JournalRow}
 use Rattle.hir.specs.Environments.{Model, tag_of, declaration_of, tagged, journaled}
-use Rattle.hir.specs.Lists.{some, over}
+use Rattle.hir.specs.Lists.{over}
+use Rattle.std.specs.List.{list_any}
 
 -- some row is of the identifier
 abbrev pub names : ℕ → List JournalRow → Bool
-names i rows = some (λ r. nat_eq i r.identifier.0) rows
+names i rows = list_any (λ r. nat_eq i r.identifier.0) rows
 
 abbrev pub is_named : Model → ℕ → Bool
 is_named m i = not (tag_of m i == 0)
@@ -18,7 +19,7 @@ firsts named (r ∷ rows) = cond (named r.identifier.0) (firsts named rows) (r �
 
 -- some row is of an identifier of the declaration
 abbrev pub declares : Model → List JournalRow → ℕ → Bool
-declares m rows d = some (λ r. nat_eq (declaration_of m r.identifier.0) d) rows
+declares m rows d = list_any (λ r. nat_eq (declaration_of m r.identifier.0) d) rows
 
 -- an identifier gets its tag, 3 where its declaration has the letter T, and a journal row
 abbrev pub name_one : (ℕ → Bool) → Model → JournalRow → Model

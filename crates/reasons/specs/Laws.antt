@@ -6,7 +6,7 @@ use Rattle.hir.specs.declared.tables.JournalRow.{JournalRow}
 use Rattle.hir.specs.declared.tables.Reason.{Reason}
 use Rattle.hir.specs.declared.tables.Reason.TheVariants as reasons
 use Rattle.hir.specs.Environments.{Model, declaration_of}
-use Rattle.hir.specs.Lists.{some}
+use Rattle.std.specs.List.{list_any}
 use Rattle.hir.specs.Spans.{identifiers_in}
 use Rattle.reactive.specs.Rows.{Row}
 use Rattle.instances.specs.Instances as instances
@@ -25,7 +25,7 @@ Once (r ∷ rows) = (names r.identifier.0 rows ≡ false) × Once rows
 
 -- the last pass visits the identifier
 abbrev pub visited : Model → Span → List Row → ℕ → Bool
-visited m ps rs i = some (λ (x : IdentifierId). nat_eq i x.0) (identifiers_in m.pool ps ++ visits m (instances.pass_acts rs))
+visited m ps rs i = list_any (λ (x : IdentifierId). nat_eq i x.0) (identifiers_in m.pool ps ++ visits m (instances.pass_acts rs))
 
 -- it has no name after reasons 1 to 5, the last pass visits it, and it shares its declaration with one that this run named for them
 pub record Sixth (m : Model) (ps : Span) (rs : List Row) (i : ℕ) : Type 0 where

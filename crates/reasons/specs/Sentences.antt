@@ -4,7 +4,8 @@ use Rattle.hir.specs.declared.ids.IdentifierId.{IdentifierId}
 use Rattle.hir.specs.declared.ids.ScopeId.{ScopeId}
 use Rattle.hir.specs.declared.span.Span.{Span}
 use Rattle.hir.specs.Environments.{Model, declaration_of, scope_of}
-use Rattle.hir.specs.Lists.{some, over}
+use Rattle.hir.specs.Lists.{over}
+use Rattle.std.specs.List.{list_any}
 use Rattle.hir.specs.Spans.{ident, identifiers_in}
 use Rattle.reactive.specs.Rows.{Row}
 use Rattle.collect.specs.Promotable as collect
@@ -18,7 +19,7 @@ use Rattle.reasons.specs.Coverings.{named_then}
 abbrev pub records : Model → ℕ → collect.Act → Bool
 records m d (collect.opens x) = false
 records m d collect.shuts = false
-records m d (collect.prunes x) = some (λ i. nat_eq (declaration_of m i.0) d) (identifiers_in m.pool (scope_of m x.0).declarations)
+records m d (collect.prunes x) = list_any (λ i. nat_eq (declaration_of m i.0) d) (identifiers_in m.pool (scope_of m x.0).declarations)
 records m d (collect.sees i) = false
 records m d (collect.flags i) = false
 
@@ -127,8 +128,8 @@ module _ (named : ℕ → Bool) (acts : List third.Act) where
 pub record SentencesHold (m : Model) (ps : Span) (rs : List Row) : Type 0 where
   pub escape : (d : ℕ) → escapes.escaped m rs d ≡ true → Escaped m (collect.pass_acts rs) d
   pub by_escape : (d : ℕ) → Escaped m (collect.pass_acts rs) d → escapes.escaped m rs d ≡ true
-  pub between : (x : ℕ) → some (λ (i : IdentifierId). nat_eq x i.0) (interposed.interposed (named_then m ps rs) (pass.pass_acts (identifiers_in m.pool ps) rs)) ≡ true → Found (named_then m ps rs) (pass.pass_acts (identifiers_in m.pool ps) rs) x
-  pub by_between : (x : ℕ) → Found (named_then m ps rs) (pass.pass_acts (identifiers_in m.pool ps) rs) x → some (λ (i : IdentifierId). nat_eq x i.0) (interposed.interposed (named_then m ps rs) (pass.pass_acts (identifiers_in m.pool ps) rs)) ≡ true
+  pub between : (x : ℕ) → list_any (λ (i : IdentifierId). nat_eq x i.0) (interposed.interposed (named_then m ps rs) (pass.pass_acts (identifiers_in m.pool ps) rs)) ≡ true → Found (named_then m ps rs) (pass.pass_acts (identifiers_in m.pool ps) rs) x
+  pub by_between : (x : ℕ) → Found (named_then m ps rs) (pass.pass_acts (identifiers_in m.pool ps) rs) x → list_any (λ (i : IdentifierId). nat_eq x i.0) (interposed.interposed (named_then m ps rs) (pass.pass_acts (identifiers_in m.pool ps) rs)) ≡ true
 
 abbrev pub EverySentence : Type 0
 EverySentence = (m : Model) (ps : Span) (rs : List Row) → SentencesHold m ps rs

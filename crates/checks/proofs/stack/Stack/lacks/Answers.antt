@@ -1,16 +1,23 @@
-use Rattle.std.proofs.Common.{◌≤◌, length, sym, arith}
-use Rattle.checks.proofs.Opening.{lacks_here, lacks_on, lacks_none}
+use Rattle.std.proofs.Common.{◌-◌, length, take, drop, ap, ◌∙◌}
+use Rattle.std.specs.List.{list_any}
+use Rattle.std.proofs.lemmas.List.{take_rest}
+use Rattle.checks.specs.Grammar.{lacking}
+use Rattle.checks.proofs.Loops.{found, all_passed}
+use Rattle.checks.proofs.Opening.{lacks_closing}
 use Rattle.checks.proofs.stack.Stack.lacks.Goals as goal
 
 pub returns-then-lacking : goal.returns-then-lacking
 returns-then-lacking c =
-    let room : c.loop-i.i ≤ length c.args.self.now.rows = omega arith in
-    lacks_here c.args.self.now.rows c.args.depth c.loop-i.i _ c.loop-i.invariant c.loop-i-test.true room _ (sym c.if-lacking.ensures)
-
-pub loop-i-preserved : goal.loop-i-preserved
-loop-i-preserved c =
-    let room : c.loop-i.i ≤ length c.args.self.now.rows = omega arith in
-    lacks_on c.args.self.now.rows c.args.depth c.loop-i.i _ c.loop-i.invariant c.loop-i-test.true room _ (sym c.if-lacking.ensures)
+    let xs = c.deref.result.now in
+    found (λ x. lacking x.now) (take (length xs - c.args.depth) (drop c.args.depth xs)) c.loop-slots.slots-index c.loop-slots.invariant _ c.loop-slots-test.true c.if-lacking.ensures
+    ∙ ap (list_any (λ x. lacking x.now)) (take_rest xs c.args.depth)
+    ∙ ap (λ ys. list_any (λ x. lacking x.now) (drop c.args.depth ys)) c.deref.ensures.0
+    ∙ lacks_closing c.args.self.now c.self.inside.rows.items c.args.depth c.self.view_is
 
 pub returns : goal.returns
-returns c = lacks_none c.args.self.now.rows c.args.depth c.loop-i.i _ c.loop-i.invariant c.loop-i-test.false
+returns c =
+    let xs = c.deref.result.now in
+    all_passed (λ x. lacking x.now) (take (length xs - c.args.depth) (drop c.args.depth xs)) c.loop-slots.slots-index c.loop-slots.invariant c.loop-slots-test.false
+    ∙ ap (list_any (λ x. lacking x.now)) (take_rest xs c.args.depth)
+    ∙ ap (λ ys. list_any (λ x. lacking x.now) (drop c.args.depth ys)) c.deref.ensures.0
+    ∙ lacks_closing c.args.self.now c.self.inside.rows.items c.args.depth c.self.view_is

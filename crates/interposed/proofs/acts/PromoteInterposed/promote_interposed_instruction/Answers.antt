@@ -1,4 +1,4 @@
-use Rattle.std.proofs.Common.{◌≡◌, Option, sym, ap, ◌∙◌, subst}
+use Rattle.std.proofs.Common.{◌≡◌, Option, sym, ap, ◌∙◌, subst, arith}
 use Rattle.hir.specs.declared.ids.IdentifierId.{IdentifierId}
 use Rattle.hir.specs.Lists.{over}
 use Rattle.reactive.specs.declared.kind.Kind.{Kind}
@@ -14,12 +14,12 @@ use Rattle.interposed.proofs.acts.PromoteInterposed.promote_interposed_instructi
 pub use_operands-requires : goal.use_operands-requires
 use_operands-requires g c =
     let r = c.args.row.now in
-    subst (Ready _) (kindless r.kind (λ x e. c.in_default.ensures.1 x (e ∙ sym (ap (λ (h : RowHead). h.kind) c.head-head.ensures))) c.args.lvalue r.mode r.marks r.operands) c.requires
+    subst (Ready _) (kindless r.kind (omega (arith, c.in_default.ensures.1 (omega arith), ap (λ (h : RowHead). h.kind) c.head-head.ensures)) c.args.lvalue r.mode r.marks r.operands) c.requires
 
 pub returns-in_default : goal.returns-in_default
 returns-in_default g c =
     let r = c.args.row.now in
-    c.use_operands.ensures ∙ ap (over does _) (sym (kindless r.kind (λ x e. c.in_default.ensures.1 x (e ∙ sym (ap (λ (h : RowHead). h.kind) c.head-head.ensures))) c.args.lvalue r.mode r.marks r.operands))
+    c.use_operands.ensures ∙ ap (over does _) (sym (kindless r.kind (omega (arith, c.in_default.ensures.1 (omega arith), ap (λ (h : RowHead). h.kind) c.head-head.ensures)) c.args.lvalue r.mode r.marks r.operands))
 
 -- the acts of the row, by the kind that its byte stands for
 acts_is : (r : Row) (h : RowHead) (k : Kind) (l : Option IdentifierId) → h ≡ head r → kind_number k ≡ h.kind → leaf_acts l r.kind r.mode r.marks r.operands ≡ leaf_acts l (kind_number k) h.mode r.marks r.operands
