@@ -5,7 +5,7 @@ ghost use Rattle.hir.specs.Sound.{Known};
 use crate::ids::{DeclarationId, IdentifierId};
 use crate::tables::{Function, Identifier, JournalRow, Scope};
 
-// The most identifiers that a call takes.
+// The most identifiers of an environment on which a call is not refused.
 pub const MOST_IDENTIFIERS: usize = 65536;
 
 // The tables that calls read and write, all lent, and how many journal rows are in use.

@@ -4,7 +4,7 @@ ghost use Rattle.hir.specs.Scratches.{noted, blank};
 use crate::ids::ScopeId;
 
 // What a run notes of an identifier (constant, global, tracked) and of a declaration (the rest).
-#[derive(Clone, Copy)]
+#[derive(Clone, Copy, PartialEq)]
 pub struct Work {
     // the declaration is that of a JSX tag
     pub tag: bool,
@@ -21,7 +21,7 @@ pub struct Work {
 }
 
 // An active scope, and the link of the one around it: 0 for none, else one more than its trail row.
-#[derive(Clone, Copy)]
+#[derive(Clone, Copy, PartialEq)]
 pub struct Trail {
     pub scope: ScopeId,
     pub link: u32,

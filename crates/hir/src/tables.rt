@@ -5,14 +5,14 @@ use crate::ids::{DeclarationId, IdentifierId};
 use crate::span::Span;
 
 // An identifier's declaration, and its tag: 0 no name, 1 an author's name, 2 `#t`, 3 `#T`.
-#[derive(Clone, Copy)]
+#[derive(Clone, Copy, PartialEq)]
 pub struct Identifier {
     pub declaration: DeclarationId,
     pub tag: u8,
 }
 
 // The identifiers of a reactive scope.
-#[derive(Clone, Copy)]
+#[derive(Clone, Copy, PartialEq)]
 pub struct Scope {
     pub dependencies: Span,
     pub declarations: Span,
@@ -20,7 +20,7 @@ pub struct Scope {
 }
 
 // A function's parameters, and the functions nested in it.
-#[derive(Clone, Copy)]
+#[derive(Clone, Copy, PartialEq)]
 pub struct Function {
     pub parameters: Span,
     pub nested: Span,
@@ -46,7 +46,7 @@ impl Reason {
 }
 
 // An identifier that a run named, and why.
-#[derive(Clone, Copy)]
+#[derive(Clone, Copy, PartialEq)]
 pub struct JournalRow {
     pub identifier: IdentifierId,
     pub reason: Reason,
