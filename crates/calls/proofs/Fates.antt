@@ -1,5 +1,5 @@
 -- What one call does to an identifier and to the journal. Assumes nothing.
-use Rattle.std.proofs.Common.{◌≡◌, ℕ, ◌<◌, ◌≤◌, Bool, true, false, cond, eqb, ◌⊎◌, List, [], ◌∷◌, ◌++◌, length, drop, Some, None, Err, Option, sym, refl, ap, ◌∙◌, inl, inr, ⊎_elim, append-nil, arith, length-take, get_or-set_other, get_or-set_same}
+use Rattle.std.proofs.Common.{◌≡◌, ℕ, ◌<◌, ◌≤◌, Bool, true, false, cond, eqb, ◌⊎◌, List, [], ◌++◌, length, drop, Some, None, Ok, Err, Option, sym, refl, ap, ◌∙◌, inl, inr, ⊎_elim, append-nil, arith, length-take, get_or-set_other, get_or-set_same}
 use Rattle.std.proofs.lemmas.List.{drop_all, drop_at}
 use Rattle.std.proofs.lemmas.Bool.{cases_Bool, cases_eq, eqb-true, leb-false}
 use Rattle.hir.specs.declared.ids.IdentifierId.{IdentifierId}
@@ -9,34 +9,31 @@ use Rattle.hir.specs.declared.span.Span.{Span}
 use Rattle.hir.specs.declared.tables.Identifier.{Identifier}
 use Rattle.hir.specs.declared.tables.JournalRow.{JournalRow}
 use Rattle.hir.specs.Environments.{Model, no_identifier, tag_of, journal_of, tagged}
-use Rattle.hir.specs.Lists.{Each}
 use Rattle.hir.specs.Refusals.{answered, unless}
-use Rattle.hir.specs.Sound.{Known}
 use Rattle.hir.specs.Spans.{ident}
 use Rattle.checks.specs.Rows.{run_refusal}
 use Rattle.checks.specs.Tables.{many_identifiers}
 use Rattle.calls.specs.declared.requests.Request.{Request}
 use Rattle.calls.specs.declared.requests.Request.TheVariants.{Run, Give, Look, Spell}
-use Rattle.calls.specs.declared.requests.Answer.TheVariants.{Ran, Given, Refused, NoTree}
+use Rattle.calls.specs.declared.requests.Reply.TheVariants.{Ran, Given}
+use Rattle.calls.specs.declared.requests.RequestError.TheVariants.{Refused, NoTree}
 use Rattle.reasons.specs.Coverings as reasons
 use Rattle.reasons.specs.Journals.{names}
 use Rattle.calls.specs.Steps.{Text, absent, give_refusal, Names, RunAccepted}
 use Rattle.calls.specs.Histories.{World, Moment, tree_at, ran_as, given_as, RunFollows, GiveFollows, TreeFollows, there, nowhere, Follows}
 use Rattle.calls.specs.Promise.{Gives, added, Journals}
-use Rattle.calls.proofs.Naming.{member}
+use Rattle.walk.proofs.Fitting.{each_imp}
+use Rattle.calls.proofs.Naming.{Promoted, member}
 
 -- an identifier stays as it was, is given a name, or is named by a run
 pub data Fate (i : ℕ) (m : Moment) : Type 0 where
   stays : tag_of m.after.env i ≡ tag_of m.before.env i → (Gives i m → ⊥) → (Journals i m → ⊥) → Fate i m
   given : tag_of m.before.env i ≡ 0 → tag_of m.after.env i ≡ 1 → Gives i m → (Journals i m → ⊥) → Fate i m
-  named : tag_of m.before.env i ≡ 0 → (tag_of m.after.env i ≡ 2) ⊎ (tag_of m.after.env i ≡ 3) → Journals i m → (Gives i m → ⊥) → Fate i m
+  named : tag_of m.before.env i ≡ 0 → Promoted (tag_of m.after.env i) → Journals i m → (Gives i m → ⊥) → Fate i m
 
 pub cases_option : {A : Type 0} (o : Option A) → (o ≡ None) ⊎ ((x : A) × (o ≡ Some x))
 cases_option None = inl refl
 cases_option (Some x) = inr (x, refl)
-
-no_run : (q : Request) (t : ℕ) (ps : Span) (i : IdentifierId) → q ≡ Run t ps → q ≡ Give i → ⊥
-no_run q t ps i e f = let z : ◌≡◌ {A = ℕ} 0 1 = cc in omega arith
 
 -- a moment that leaves the environment, and is neither an accepted gift nor an accepted run
 quiet : (i : ℕ) (m : Moment) → m.after.env ≡ m.before.env → (Gives i m → ⊥) → (Journals i m → ⊥) → Fate i m
@@ -63,12 +60,12 @@ added_rows b a rows n =
     ap (drop b.count) n.journal ∙ drop_at (journal_of b) rows b.count l
 
 refused_none : (b : Bool) (r : Refusal) (rest : Option Refusal) → cond b (Some r) rest ≡ None → (b ≡ false) × (rest ≡ None)
-refused_none true r rest e = absurd (let z : ◌≡◌ {A = ℕ} 0 1 = cc in omega arith)
+refused_none true r rest e = cc
 refused_none false r rest e = (refl, e)
 
 else_none : (b : Bool) (r : Refusal) → cond b None (Some r) ≡ None → b ≡ true
 else_none true r e = refl
-else_none false r e = absurd (let z : ◌≡◌ {A = ℕ} 0 1 = cc in omega arith)
+else_none false r e = cc
 
 -- an accepted gift is to an identifier that is there and has no name
 give_none : (m : Model) (i : IdentifierId) → give_refusal m i ≡ None → (i.0 < length m.identifiers) × (tag_of m i.0 ≡ 0)
@@ -80,7 +77,7 @@ give_none m i e =
 -- a run over a tree that is there
 module _ (m : Moment) (t : ℕ) (ps : Span) (asked : m.request ≡ Run t ps) (f : RunFollows m.before t ps m.answer m.after) where
   no_gift : (i : ℕ) → Gives i m → ⊥
-  no_gift i g = no_run m.request t ps (ident i) asked g.0
+  no_gift i g = cc
 
   -- what the run journals
   abbrev rows : List JournalRow
@@ -88,9 +85,9 @@ module _ (m : Moment) (t : ℕ) (ps : Span) (asked : m.request ≡ Run t ps) (f 
 
   module _ (a : RunAccepted m.before.env ps (tree_at m.before t).rows f.answer m.after.env) where
     is_added : added m ≡ rows
-    is_added = added_rows m.before.env m.after.env (rows) a.names_them
+    is_added = added_rows m.before.env m.after.env rows a.names_them
 
-    ran : m.answer ≡ Ran m.before.env.count (length (rows))
+    ran : m.answer ≡ Ok (Ran m.before.env.count (length rows))
     ran = f.told ∙ ap ran_as a.answers
 
     accepted_fate : (i : ℕ) → Fate i m
@@ -98,19 +95,15 @@ module _ (m : Moment) (t : ℕ) (ps : Span) (asked : m.request ≡ Run t ps) (f 
         let n = a.names_them in
         ⊎_elim
         (λ e. named
-        (member (λ k. tag_of m.before.env k ≡ 0) (rows) i (each_second (rows) n.unnamed) e)
-        (member (λ k. (tag_of m.after.env k ≡ 2) ⊎ (tag_of m.after.env k ≡ 3)) (rows) i n.promoted e)
-        (record { tree = t; parameters = ps; place = m.before.env.count; count = length (rows); asked = asked; accepted = ran; journalled = ap (names i) is_added ∙ e })
+        (member (λ k. tag_of m.before.env k ≡ 0) rows i (each_imp _ _ (λ r h. h.1) rows n.unnamed) e)
+        (member (λ k. Promoted (tag_of m.after.env k)) rows i n.promoted e)
+        (record { tree = t; parameters = ps; place = m.before.env.count; count = length rows; asked = asked; accepted = ran; journalled = ap (names i) is_added ∙ e })
         (no_gift i))
         (λ e. stays
         (ap (λ (x : Identifier). x.tag) (n.others i e))
         (no_gift i)
-        (λ j. let z : ◌≡◌ {A = Bool} true false = sym j.journalled ∙ ap (names i) is_added ∙ e in let k : ◌≡◌ {A = ℕ} 0 1 = cc in omega arith))
-        (cases_Bool (names i (rows)))
-      where
-        each_second : (rows : List JournalRow) → Each (λ r. Known m.before.env r.identifier × (tag_of m.before.env r.identifier.0 ≡ 0)) rows → Each (λ r. tag_of m.before.env r.identifier.0 ≡ 0) rows
-        each_second [] h = tt
-        each_second (r ∷ rows) h = (h.0.1, each_second rows h.1)
+        (λ j. cc (sym j.journalled ∙ ap (names i) is_added ∙ e)))
+        (cases_Bool (names i rows))
 
     accepted_journal : Extends m
     unfolding Extends
@@ -118,14 +111,14 @@ module _ (m : Moment) (t : ℕ) (ps : Span) (asked : m.request ≡ Run t ps) (f 
 
   module _ (r : Refusal) (no : f.answer ≡ Err r) (same : m.after.env ≡ m.before.env) where
     refused_fate : (i : ℕ) → Fate i m
-    refused_fate i = quiet i m same (no_gift i) (λ j. let e : Ran j.place j.count ≡ Refused r = sym j.accepted ∙ f.told ∙ ap ran_as no in let z : ◌≡◌ {A = ℕ} 0 1 = cc in omega arith)
+    refused_fate i = quiet i m same (no_gift i) (λ j. cc (sym j.accepted ∙ f.told ∙ ap ran_as no))
 
   -- an accepted run adds exactly those rows
-  pub run_covered : (place count : ℕ) → m.answer ≡ Ran place count → added m ≡ reasons.journal m.before.env ps (tree_at m.before t).rows
+  pub run_covered : (place count : ℕ) → m.answer ≡ Ok (Ran place count) → added m ≡ reasons.journal m.before.env ps (tree_at m.before t).rows
   run_covered place count said =
       ⊎_elim
       (λ e. is_added (f.step.accepted e))
-      (λ e. absurd (let q : Ran place count ≡ Refused e.0 = sym said ∙ f.told ∙ ap ran_as (f.step.refused e.0 e.1).answers in let z : ◌≡◌ {A = ℕ} 0 1 = cc in omega arith))
+      (λ e. cc (sym said ∙ f.told ∙ ap ran_as (f.step.refused e.0 e.1).answers))
       (cases_option (run_refusal m.before.env m.before.notes ps (tree_at m.before t).rows))
 
   pub run_fate : (i : ℕ) → Fate i m
@@ -143,9 +136,6 @@ module _ (m : Moment) (t : ℕ) (ps : Span) (asked : m.request ≡ Run t ps) (f 
       (λ e. same_journal m.before.env m.after.env (ap journal_of (f.step.refused e.0 e.1).env))
       (cases_option (run_refusal m.before.env m.before.notes ps (tree_at m.before t).rows))
 
-not_journals : (m : Moment) (id : IdentifierId) (i : ℕ) → m.request ≡ Give id → Journals i m → ⊥
-not_journals m id i e j = no_run m.request j.tree j.parameters id j.asked e
-
 module _ (m : Moment) (id : IdentifierId) (asked : m.request ≡ Give id) (f : GiveFollows m.before id m.answer m.after) where
   give_fate : (i : ℕ) → Fate i m
   give_fate i =
@@ -153,24 +143,24 @@ module _ (m : Moment) (id : IdentifierId) (asked : m.request ≡ Give id) (f : G
       (λ e.
       let h = give_none m.before.env id e in
       let after : m.after.env ≡ tagged m.before.env id.0 1 = f.step.leaves ∙ ap (λ o. unless o m.before.env (tagged m.before.env id.0 1)) e in
-      let said : m.answer ≡ Given = f.told ∙ ap given_as (f.step.answers ∙ ap (λ o. answered o tt) e) in
+      let said : m.answer ≡ Ok Given = f.told ∙ ap given_as (f.step.answers ∙ ap (λ o. answered o tt) e) in
       ⊎_elim
       (λ same. given
       (ap (tag_of m.before.env) same ∙ h.1)
       (ap (λ (x : Model). tag_of x i) after ∙ ap (tag_of (tagged m.before.env id.0 1)) same ∙ ap (λ (x : Identifier). x.tag) (get_or-set_same m.before.env.identifiers id.0 _ no_identifier h.0))
       (asked ∙ ap (λ k. Give (ident k)) (sym same), said)
-      (not_journals m id i asked))
+      (λ j. cc))
       (λ other. stays
       (ap (λ (x : Model). tag_of x i) after ∙ ap (λ (x : Identifier). x.tag) (get_or-set_other m.before.env.identifiers id.0 i _ no_identifier other))
       (λ g. other (let k : Give id ≡ Give (ident i) = sym asked ∙ g.0 in let q : id ≡ ident i = cc in sym (ap (λ (x : IdentifierId). x.0) q)))
-      (not_journals m id i asked))
+      (λ j. cc))
       (cases_eq i id.0))
       (λ e.
       let after : m.after.env ≡ m.before.env = f.step.leaves ∙ ap (λ o. unless o m.before.env (tagged m.before.env id.0 1)) e.1 in
-      let said : m.answer ≡ Refused e.0 = f.told ∙ ap given_as (f.step.answers ∙ ap (λ o. answered o tt) e.1) in
+      let said : m.answer ≡ Err (Refused e.0) = f.told ∙ ap given_as (f.step.answers ∙ ap (λ o. answered o tt) e.1) in
       quiet i m after
-      (λ g. let k : Given ≡ Refused e.0 = sym g.1 ∙ said in let z : ◌≡◌ {A = ℕ} 0 1 = cc in omega arith)
-      (not_journals m id i asked))
+      (λ g. cc)
+      (λ j. cc))
       (cases_option (give_refusal m.before.env id))
 
   give_journal : Extends m
@@ -186,22 +176,22 @@ module _ (m : Moment) (id : IdentifierId) (asked : m.request ≡ Give id) (f : G
 module _ (m : Moment) (same : m.after.env ≡ m.before.env) where
   look_fate : (i : ℕ) → (id : IdentifierId) → m.request ≡ Look id → Fate i m
   look_fate i id asked = quiet i m same
-      (λ g. let e : Look id ≡ Give (ident i) = sym asked ∙ g.0 in let z : ◌≡◌ {A = ℕ} 0 1 = cc in omega arith)
-      (λ j. let e : Look id ≡ Run j.tree j.parameters = sym asked ∙ j.asked in let z : ◌≡◌ {A = ℕ} 0 1 = cc in omega arith)
+      (λ g. cc)
+      (λ j. cc)
 
   spell_fate : (i : ℕ) → (id : IdentifierId) → m.request ≡ Spell id → Fate i m
   spell_fate i id asked = quiet i m same
-      (λ g. let e : Spell id ≡ Give (ident i) = sym asked ∙ g.0 in let z : ◌≡◌ {A = ℕ} 0 1 = cc in omega arith)
-      (λ j. let e : Spell id ≡ Run j.tree j.parameters = sym asked ∙ j.asked in let z : ◌≡◌ {A = ℕ} 0 1 = cc in omega arith)
+      (λ g. cc)
+      (λ j. cc)
 
   quiet_journal : Extends m
   unfolding Extends
   quiet_journal = same_journal m.before.env m.after.env (ap journal_of same)
 
-  nowhere_fate : (i t : ℕ) (ps : Span) → m.request ≡ Run t ps → m.answer ≡ NoTree → Fate i m
+  nowhere_fate : (i t : ℕ) (ps : Span) → m.request ≡ Run t ps → m.answer ≡ Err NoTree → Fate i m
   nowhere_fate i t ps asked no-tree = quiet i m same
-      (λ g. no_run m.request t ps (ident i) asked g.0)
-      (λ j. let e : NoTree ≡ Ran j.place j.count = sym no-tree ∙ j.accepted in let z : ◌≡◌ {A = ℕ} 0 1 = cc in omega arith)
+      (λ g. cc)
+      (λ j. cc)
 
 -- what a call that follows does
 pub record Done (m : Moment) : Type 0 where

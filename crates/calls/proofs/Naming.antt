@@ -7,14 +7,11 @@ use Rattle.hir.specs.declared.tables.JournalRow.{JournalRow}
 use Rattle.hir.specs.Environments.{Model, no_identifier, row_of, tag_of, journal_of, tagged, journaled}
 use Rattle.hir.specs.Lists.{Each}
 use Rattle.hir.specs.Sound.{Known}
+use Rattle.walk.proofs.Fitting.{each_append}
 use Rattle.promote.specs.Growth.{Named, none, more}
 use Rattle.promote.proofs.Growing.{Kept, kept}
 use Rattle.reasons.specs.Journals.{names, name_one, name_all}
 use Rattle.calls.specs.Steps.{Distinct, Names}
-
-pub each_push : {A : Type 0} (P : A → Type 0) (xs : List A) (y : A) → Each P xs → P y → Each P (xs ++ y ∷ [])
-each_push P [] y h p = (p, tt)
-each_push P (x ∷ xs) y h p = (h.0, each_push P xs y h.1 p)
 
 names_push : (i : ℕ) (js : List JournalRow) (r : JournalRow) → names i (js ++ r ∷ []) ≡ false → (names i js ≡ false) × (eqb i r.identifier.0 ≡ false)
 names_push i [] r e = let p = or_parts (eqb i r.identifier.0) false e in (refl, p.0)
@@ -40,7 +37,7 @@ once_push (x ∷ js) r d e =
 
 -- what holds of the row of an identifier that some row is of
 pub member : (P : ℕ → Type 0) (js : List JournalRow) (i : ℕ) → Each (λ r. P r.identifier.0) js → names i js ≡ true → P i
-member P [] i h e = absurd (let z : ◌≡◌ {A = Bool} false true = e in let k : ◌≡◌ {A = ℕ} 0 1 = cc in omega arith)
+member P [] i h e = cc
 member P (r ∷ js) i h e =
     ⊎_elim
     (λ here. subst P (sym (eqb-true i r.identifier.0 here)) h.0)
@@ -54,12 +51,12 @@ each_other P Q i on (r ∷ js) e h =
     let p = or_parts (eqb i r.identifier.0) (names i js) e in
     (on r.identifier.0 (λ same. eqb-false i r.identifier.0 p.0 (sym same)) h.0, each_other P Q i on js p.1 h.1)
 
-Promoted : Model → ℕ → Type 0
-Promoted m k = (tag_of m k ≡ 2) ⊎ (tag_of m k ≡ 3)
+-- a tag of a promoted name
+abbrev pub Promoted : ℕ → Type 0
+Promoted t = (t ≡ 2) ⊎ (t ≡ 3)
 
-never_none : (m : Model) (k : ℕ) → Promoted m k → tag_of m k ≡ 0 → ⊥
-unfolding Promoted
-never_none m k h z = ⊎_elim (λ e. omega arith) (λ e. omega arith) h
+pub promoted_some : (t : ℕ) → Promoted t → t ≡ 0 → ⊥
+promoted_some t h z = ⊎_elim (λ e. omega arith) (λ e. omega arith) h
 
 names_none : (m : Model) → m.count ≤ length m.journal → Names m [] m
 names_none m h = record {
@@ -87,8 +84,7 @@ module _ (m t : Model) (js : List JournalRow) (r : JournalRow) (tag : ℕ) (so :
   on = journaled (tagged t r.identifier.0 tag) r
 
   fresh : names r.identifier.0 js ≡ false
-  unfolding Promoted
-  fresh = ⊎_elim (λ e. absurd (never_none t r.identifier.0 (member (Promoted t) js r.identifier.0 so.promoted e) was)) (λ e. e) (cases_Bool (names r.identifier.0 js))
+  fresh = ⊎_elim (λ e. absurd (promoted_some _ (member (λ k. Promoted (tag_of t k)) js r.identifier.0 so.promoted e) was)) (λ e. e) (cases_Bool (names r.identifier.0 js))
 
   other_row : (k : ℕ) → (k ≡ r.identifier.0 → ⊥) → row_of on k ≡ row_of t k
   unfolding on
@@ -99,13 +95,13 @@ module _ (m t : Model) (js : List JournalRow) (r : JournalRow) (tag : ℕ) (so :
   own_tag = ap (λ (x : Identifier). x.tag) (get_or-set_same t.identifiers r.identifier.0 _ no_identifier known)
 
   pub names_more : Names m (js ++ r ∷ []) (journaled (tagged t r.identifier.0 tag) r)
-  unfolding on Promoted
+  unfolding on
   names_more = record {
-    unnamed = each_push _ js r so.unnamed (omega (arith, so.identifiers), ap (λ (x : Identifier). x.tag) (sym (so.others r.identifier.0 fresh)) ∙ was);
+    unnamed = each_append _ js (r ∷ []) so.unnamed ((omega (arith, so.identifiers), ap (λ (x : Identifier). x.tag) (sym (so.others r.identifier.0 fresh)) ∙ was), tt);
     once = once_push js r so.once fresh;
-    promoted = each_push _ js r
-        (each_other (Promoted t) (Promoted on) r.identifier.0 (λ k ne h. let P : Identifier → Type 0 = λ x. (x.tag ≡ 2) ⊎ (x.tag ≡ 3) in subst P (sym (other_row k ne)) h) js fresh so.promoted)
-        (⊎_elim (λ e. inl (own_tag ∙ e)) (λ e. inr (own_tag ∙ e)) is);
+    promoted = each_append _ js (r ∷ [])
+        (each_other (λ k. Promoted (tag_of t k)) (λ k. Promoted (tag_of on k)) r.identifier.0 (λ k ne h. let P : Identifier → Type 0 = λ x. Promoted x.tag in subst P (sym (other_row k ne)) h) js fresh so.promoted)
+        (⊎_elim (λ e. inl (own_tag ∙ e)) (λ e. inr (own_tag ∙ e)) is, tt);
     others = λ k e. let p = names_push k js r e in other_row k (eqb-false k r.identifier.0 p.1) ∙ so.others k p.0;
     declarations = λ k. keeps.declarations k ∙ so.declarations k;
     identifiers = keeps.size ∙ so.identifiers;

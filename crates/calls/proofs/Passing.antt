@@ -20,7 +20,7 @@ use Rattle.hir.specs.Spans.{identifiers_in}
 use Rattle.reactive.specs.declared.row.Number.{Number}
 use Rattle.reactive.specs.declared.row.Number.TheVariants as numbers
 use Rattle.reactive.specs.Numbers.{scope_in, function_in}
-use Rattle.reactive.specs.Rows.{Row}
+use Rattle.reactive.specs.Rows.{Reading, Row, rewound}
 use Rattle.reactive.specs.Sound.{RowSound}
 use Rattle.walk.specs.Events.{Shallow}
 use Rattle.walk.proofs.Fitting.{each_imp}
@@ -48,14 +48,14 @@ use Rattle.calls.proofs.Naming.{named_names, journal_all, count_all}
 use Rattle.calls.proofs.Fates.{added_rows, full_journal}
 
 scope_named : (n : Option Number) (s : ScopeId) → scope_in n ≡ Some s → n ≡ Some (numbers.Scope s)
-scope_named None s e = absurd (let z : ◌≡◌ {A = ℕ} 0 1 = cc in omega arith)
-scope_named (Some (numbers.Scope x)) s e = let f : x ≡ s = cc in ap (λ y. Some (numbers.Scope y)) f
-scope_named (Some (numbers.Function x)) s e = absurd (let z : ◌≡◌ {A = ℕ} 0 1 = cc in omega arith)
+scope_named None s e = cc
+scope_named (Some (numbers.Scope x)) s e = cc
+scope_named (Some (numbers.Function x)) s e = cc
 
 function_named : (n : Option Number) (f : FunctionId) → function_in n ≡ Some f → n ≡ Some (numbers.Function f)
-function_named None f e = absurd (let z : ◌≡◌ {A = ℕ} 0 1 = cc in omega arith)
-function_named (Some (numbers.Scope x)) f e = absurd (let z : ◌≡◌ {A = ℕ} 0 1 = cc in omega arith)
-function_named (Some (numbers.Function x)) f e = let g : x ≡ f = cc in ap (λ y. Some (numbers.Function y)) g
+function_named None f e = cc
+function_named (Some (numbers.Scope x)) f e = cc
+function_named (Some (numbers.Function x)) f e = cc
 
 row_sound : (m : Model) (r : Row) → SoundRow (sizes m) r → RowSound m r
 row_sound m r s = record {
@@ -197,24 +197,24 @@ module _ (ps : Span) (rs : List Row) where
       grows_trans a (grows_trans b (grows_trans c (grows_trans d (grows_instances _ pd))))
 
 -- from pass to pass, over a source that is rewound between them
-module _ (ps : Span) where
-  other_rows : (t : Tables) (rs us : List Row) → Passable t ps rs → us ≡ rs → Passable t ps us
-  other_rows t rs us p e = subst (Passable t ps) (sym e) p
+module _ (ps : Span) (r s : Reading) (back : s ≡ rewound r) where
+  same_rows : (t : Tables) → Passable t ps r.rows → Passable t ps s.rows
+  same_rows t p = subst (Passable t ps) (ap (λ (x : Reading). x.rows) (sym back)) p
 
-  pub after_collect : (b t on : Tables) (rs us : List Row) → Passable b ps rs → t ≡ reset b → on ≡ collects.collected t rs → us ≡ rs → Passable on ps us
-  after_collect b t on rs us p e f s = other_rows on rs us (onward t on ps rs (λ x. collects.collected x rs) (passable_reset ps rs b t p e) (grows_collect ps rs) f) s
+  pub after_collect : (b t on : Tables) → Passable b ps r.rows → t ≡ reset b → on ≡ collects.collected t r.rows → Passable on ps s.rows
+  after_collect b t on p e f = same_rows on (onward t on ps r.rows (λ x. collects.collected x r.rows) (passable_reset ps r.rows b t p e) (grows_collect ps r.rows) f)
 
-  pub after_temporaries : (t on : Tables) (rs us : List Row) → Passable t ps rs → on ≡ temporaries.promote_temporaries t ps rs → us ≡ rs → Passable on ps us
-  after_temporaries t on rs us p f s = other_rows on rs us (onward t on ps rs (λ x. temporaries.promote_temporaries x ps rs) p (grows_temporaries ps rs) f) s
+  pub after_temporaries : (t on : Tables) → Passable t ps r.rows → on ≡ temporaries.promote_temporaries t ps r.rows → Passable on ps s.rows
+  after_temporaries t on p f = same_rows on (onward t on ps r.rows (λ x. temporaries.promote_temporaries x ps r.rows) p (grows_temporaries ps r.rows) f)
 
-  pub after_interposed : (t on : Tables) (rs us : List Row) → Passable t ps rs → on ≡ interposed.promote_interposed t ps rs → us ≡ rs → Passable on ps us
-  after_interposed t on rs us p f s = other_rows on rs us (onward t on ps rs (λ x. interposed.promote_interposed x ps rs) p (grows_interposed ps rs) f) s
+  pub after_interposed : (t on : Tables) → Passable t ps r.rows → on ≡ interposed.promote_interposed t ps r.rows → Passable on ps s.rows
+  after_interposed t on p f = same_rows on (onward t on ps r.rows (λ x. interposed.promote_interposed x ps r.rows) p (grows_interposed ps r.rows) f)
 
 -- a refused run
 pub run_refused : (m : Model) (n : Notes) (ps : Span) (rs : List Row) (r : Refusal) → run_refusal m n ps rs ≡ Some r → RunStep m n ps rs (Err r) m n
 run_refused m n ps rs r e = record {
-  accepted = λ f. absurd (let g : None ≡ Some r = sym f ∙ e in let z : ◌≡◌ {A = ℕ} 0 1 = cc in omega arith);
-  refused = λ x f. record { answers = (let g : Some r ≡ Some x = sym e ∙ f in let h : r ≡ x = cc in ap Err h); env = refl; scratch = refl };
+  accepted = λ f. cc;
+  refused = λ x f. record { answers = cc; env = refl; scratch = refl };
   sizes = record { work = refl; marks = refl; trail = refl };
 }
 
@@ -255,14 +255,14 @@ module _ (b t : Tables) (ps : Span) (rs : List Row) (e : run_refusal b.env b.not
       let P : List JournalRow → Type 0 = λ rows. Names b.env rows t.env in
       record {
         accepted = λ f. record { answers = ap (λ n. Ok (b.env.count, n)) k; env = left_is; names_them = subst P rows_are did };
-        refused = λ r f. absurd (let g : None ≡ Some r = sym e ∙ f in let z : ◌≡◌ {A = ℕ} 0 1 = cc in omega arith);
+        refused = λ r f. cc;
         sizes = record { work = grew.work; marks = grew.marks; trail = grew.trail };
       }
 
 pub answered_none : (o : Option Refusal) (u : Unit {0}) → Ok u ≡ answered o tt → o ≡ None
 answered_none None u e = refl
-answered_none (Some r) u e = absurd (let z : ◌≡◌ {A = ℕ} 0 1 = cc in omega arith)
+answered_none (Some r) u e = cc
 
 pub answered_some : (o : Option Refusal) (r : Refusal) → Err r ≡ answered {X = Unit {0}} o tt → o ≡ Some r
-answered_some None r e = absurd (let z : ◌≡◌ {A = ℕ} 0 1 = cc in omega arith)
-answered_some (Some x) r e = let f : x ≡ r = cc in ap Some f
+answered_some None r e = cc
+answered_some (Some x) r e = cc

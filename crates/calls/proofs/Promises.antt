@@ -1,5 +1,5 @@
 -- The promise, from what each call does. Assumes nothing.
-use Rattle.std.proofs.Common.{◌≡◌, ℕ, Bool, true, false, not, ◌⊎◌, List, [], ◌∷◌, ◌++◌, Some, None, Option, sym, refl, ap, ◌∙◌, subst, inl, inr, ⊎_elim, append_assoc, append-nil, arith}
+use Rattle.std.proofs.Common.{◌≡◌, ℕ, true, not, ◌⊎◌, List, [], ◌∷◌, ◌++◌, Some, None, Ok, Option, sym, refl, ap, ◌∙◌, subst, inl, inr, ⊎_elim, append_assoc, append-nil, arith}
 use Rattle.std.proofs.lemmas.Bool.{eq-eqb, ne_eqb}
 use Rattle.hir.specs.declared.refusal.Refusal.{Refusal}
 use Rattle.hir.specs.declared.span.Span.{Span}
@@ -8,12 +8,13 @@ use Rattle.hir.specs.Refusals.{answered}
 use Rattle.hir.specs.Spans.{ident}
 use Rattle.calls.specs.declared.requests.Request.{Request}
 use Rattle.calls.specs.declared.requests.Request.TheVariants.{Run, Give, Look, Spell}
-use Rattle.calls.specs.declared.requests.Answer.TheVariants.{Ran, Tag, NoTree}
+use Rattle.calls.specs.declared.requests.Reply.TheVariants.{Ran, Tag}
 use Rattle.calls.specs.Steps.{Text, look_refusal}
 use Rattle.calls.specs.Histories.{World, Moment, tree_at, looked_as, TreeFollows, there, nowhere, Follows, History, start, next, Somewhere}
 use Rattle.calls.specs.Promise.{is_named, Gives, added, Journals, JournalsAs, TagFollows, by_gift, by_run, by_start, Alike, all_added, Promise}
 use Rattle.naming.specs.Texts.{Lawful}
 use Rattle.reasons.specs.Coverings as reasons
+use Rattle.calls.proofs.Naming.{Promoted, promoted_some}
 use Rattle.calls.proofs.Fates.{Fate, stays, given, named, done_call, run_covered}
 use Rattle.calls.proofs.Spellings.{declares_on, call_letter, alike_by}
 
@@ -21,28 +22,18 @@ use Rattle.calls.proofs.Spellings.{declares_on, call_letter, alike_by}
 data Tale (i : ℕ) (w : World) (ms : List Moment) (u : World) : Type 0 where
   stood : tag_of u.env i ≡ tag_of w.env i → (Somewhere (Gives i) ms → ⊥) → (Somewhere (Journals i) ms → ⊥) → Tale i w ms u
   gifted : tag_of w.env i ≡ 0 → tag_of u.env i ≡ 1 → Somewhere (Gives i) ms → (Somewhere (Journals i) ms → ⊥) → Tale i w ms u
-  ran : tag_of w.env i ≡ 0 → (tag_of u.env i ≡ 2) ⊎ (tag_of u.env i ≡ 3) → Somewhere (JournalsAs i (tag_of u.env i)) ms → (Somewhere (Gives i) ms → ⊥) → Tale i w ms u
-
-neither : {A B : Type 0} → (A → ⊥) → (B → ⊥) → A ⊎ B → ⊥
-neither f g x = ⊎_elim f g x
-
-Promoted : World → ℕ → Type 0
-Promoted w i = (tag_of w.env i ≡ 2) ⊎ (tag_of w.env i ≡ 3)
-
-promoted_some : (t : ℕ) → (t ≡ 2) ⊎ (t ≡ 3) → t ≡ 0 → ⊥
-promoted_some t h z = ⊎_elim (λ e. omega arith) (λ e. omega arith) h
+  ran : tag_of w.env i ≡ 0 → Promoted (tag_of u.env i) → Somewhere (JournalsAs i (tag_of u.env i)) ms → (Somewhere (Gives i) ms → ⊥) → Tale i w ms u
 
 -- one call, and then the others
 joined : (i : ℕ) (w u : World) (m : Moment) (ms : List Moment) → m.before ≡ w → Fate i m → Tale i m.after ms u → Tale i w (m ∷ ms) u
-joined i w u m ms e (stays s g j) (stood t h k) = stood (t ∙ s ∙ ap (λ (x : World). tag_of x.env i) e) (neither g h) (neither j k)
-joined i w u m ms e (stays s g j) (gifted z o h k) = gifted (sym (ap (λ (x : World). tag_of x.env i) e) ∙ sym s ∙ z) o (inr h) (neither j k)
-joined i w u m ms e (stays s g j) (ran z o h k) = ran (sym (ap (λ (x : World). tag_of x.env i) e) ∙ sym s ∙ z) o (inr h) (neither g k)
-joined i w u m ms e (given z o g j) (stood t h k) = gifted (sym (ap (λ (x : World). tag_of x.env i) e) ∙ z) (t ∙ o) (inl g) (neither j k)
+joined i w u m ms e (stays s g j) (stood t h k) = stood (t ∙ s ∙ ap (λ (x : World). tag_of x.env i) e) (⊎_elim g h) (⊎_elim j k)
+joined i w u m ms e (stays s g j) (gifted z o h k) = gifted (sym (ap (λ (x : World). tag_of x.env i) e) ∙ sym s ∙ z) o (inr h) (⊎_elim j k)
+joined i w u m ms e (stays s g j) (ran z o h k) = ran (sym (ap (λ (x : World). tag_of x.env i) e) ∙ sym s ∙ z) o (inr h) (⊎_elim g k)
+joined i w u m ms e (given z o g j) (stood t h k) = gifted (sym (ap (λ (x : World). tag_of x.env i) e) ∙ z) (t ∙ o) (inl g) (⊎_elim j k)
 joined i w u m ms e (given z o g j) (gifted y p h k) = absurd (omega (arith, o, y))
 joined i w u m ms e (given z o g j) (ran y p h k) = absurd (omega (arith, o, y))
 joined i w u m ms e (named z o j g) (stood t h k) =
-    let P : ℕ → Type 0 = λ x. (x ≡ 2) ⊎ (x ≡ 3) in
-    ran (sym (ap (λ (x : World). tag_of x.env i) e) ∙ z) (subst P (sym t) o) (inl (j, sym t)) (neither g h)
+    ran (sym (ap (λ (x : World). tag_of x.env i) e) ∙ z) (subst Promoted (sym t) o) (inl (j, sym t)) (⊎_elim g h)
 joined i w u m ms e (named z o j g) (gifted y p h k) = absurd (promoted_some _ o y)
 joined i w u m ms e (named z o j g) (ran y p h k) = absurd (promoted_some _ o y)
 
@@ -54,7 +45,7 @@ is_named_by_tag : (w : World) (i : ℕ) → (tag_of w.env i ≡ 0 → ⊥) → i
 is_named_by_tag w i ne = ap not (ne_eqb (tag_of w.env i) 0 ne)
 
 named_some : (w : World) (i : ℕ) → is_named w i ≡ true → tag_of w.env i ≡ 0 → ⊥
-named_some w i e z = let k : ◌≡◌ {A = Bool} false true = sym (ap not (eq-eqb (tag_of w.env i) 0 z)) ∙ e in let q : ◌≡◌ {A = ℕ} 0 1 = cc in omega arith
+named_some w i e z = cc (sym (ap not (eq-eqb (tag_of w.env i) 0 z)) ∙ e)
 
 somewhere_named : (i t : ℕ) (ms : List Moment) → Somewhere (JournalsAs i t) ms → Somewhere (Journals i) ms
 somewhere_named i t [] h = h
@@ -122,25 +113,25 @@ cut_at : (text : Text) (w u : World) (ms before : List Moment) (m : Moment) (res
 cut_at text w u ms before m rest e h = let P : List Moment → Type 0 = λ xs. History text w xs u in cut text w u before m rest (subst P e h)
 
 -- an accepted look answers the tag of its moment
-look_answer : (o : Option Refusal) (tag t : ℕ) → Tag t ≡ looked_as (answered o tag) → t ≡ tag
+look_answer : (o : Option Refusal) (tag t : ℕ) → Ok (Tag t) ≡ looked_as (answered o tag) → t ≡ tag
 look_answer None tag t e = cc
-look_answer (Some r) tag t e = absurd (let z : ◌≡◌ {A = ℕ} 0 1 = cc in omega arith)
+look_answer (Some r) tag t e = cc
 
-looked : (text : Text) (m : Moment) (i t : ℕ) (q : Request) → m.request ≡ q → q ≡ Look (ident i) → m.answer ≡ Tag t → Follows text m.before q m.answer m.after → t ≡ tag_of m.before.env i
-looked text m i t (Run a b) e is said f = absurd (let z : ◌≡◌ {A = ℕ} 0 1 = cc in omega arith)
-looked text m i t (Give a) e is said f = absurd (let z : ◌≡◌ {A = ℕ} 0 1 = cc in omega arith)
+looked : (text : Text) (m : Moment) (i t : ℕ) (q : Request) → m.request ≡ q → q ≡ Look (ident i) → m.answer ≡ Ok (Tag t) → Follows text m.before q m.answer m.after → t ≡ tag_of m.before.env i
+looked text m i t (Run a b) e is said f = cc
+looked text m i t (Give a) e is said f = cc
 looked text m i t (Look a) e is said f =
     let same : a ≡ ident i = cc in
     look_answer (look_refusal m.before.env a) (tag_of m.before.env a.0) t (sym said ∙ f.told ∙ ap looked_as f.step.answers)
     ∙ ap (λ x. tag_of m.before.env x.0) same
-looked text m i t (Spell a) e is said f = absurd (let z : ◌≡◌ {A = ℕ} 0 1 = cc in omega arith)
+looked text m i t (Spell a) e is said f = cc
 
 -- an accepted run journals what its rows cover
-tree_covered : (m : Moment) (t : ℕ) (ps : Span) (place count : ℕ) → m.request ≡ Run t ps → m.answer ≡ Ran place count → TreeFollows m.before t ps m.answer m.after → added m ≡ reasons.journal m.before.env ps (tree_at m.before t).rows
+tree_covered : (m : Moment) (t : ℕ) (ps : Span) (place count : ℕ) → m.request ≡ Run t ps → m.answer ≡ Ok (Ran place count) → TreeFollows m.before t ps m.answer m.after → added m ≡ reasons.journal m.before.env ps (tree_at m.before t).rows
 tree_covered m t ps place count asked said (there h f) = run_covered m t ps asked f place count said
-tree_covered m t ps place count asked said (nowhere h e same) = absurd (let q : Ran place count ≡ NoTree = sym said ∙ e in let z : ◌≡◌ {A = ℕ} 0 1 = cc in omega arith)
+tree_covered m t ps place count asked said (nowhere h e same) = cc
 
-covered_here : (text : Text) (m : Moment) (t : ℕ) (ps : Span) (place count : ℕ) → m.request ≡ Run t ps → m.answer ≡ Ran place count → Follows text m.before m.request m.answer m.after → added m ≡ reasons.journal m.before.env ps (tree_at m.before t).rows
+covered_here : (text : Text) (m : Moment) (t : ℕ) (ps : Span) (place count : ℕ) → m.request ≡ Run t ps → m.answer ≡ Ok (Ran place count) → Follows text m.before m.request m.answer m.after → added m ≡ reasons.journal m.before.env ps (tree_at m.before t).rows
 covered_here text m t ps place count asked said f =
     let P : Request → Type 0 = λ q. Follows text m.before q m.answer m.after in
     tree_covered m t ps place count asked said (subst P asked f)

@@ -7,7 +7,6 @@ use Rattle.hir.specs.declared.span.Span.{Span}
 use Rattle.hir.specs.declared.tables.Identifier.{Identifier}
 use Rattle.hir.specs.declared.tables.JournalRow.{JournalRow}
 use Rattle.hir.specs.Environments.{Model, no_identifier, tag_of, declaration_of, tagged, with_tag}
-use Rattle.hir.specs.Lists.{Each}
 use Rattle.hir.specs.Refusals.{unless}
 use Rattle.hir.specs.Sound.{Known}
 use Rattle.hir.specs.Spans.{ident}
@@ -18,11 +17,10 @@ use Rattle.reasons.specs.Coverings as reasons
 use Rattle.reasons.specs.Journals.{names, name_one, name_all}
 use Rattle.calls.specs.declared.requests.Request.{Request}
 use Rattle.calls.specs.declared.requests.Request.TheVariants.{Run, Give, Look, Spell}
-use Rattle.calls.specs.declared.requests.Answer.{Answer}
-use Rattle.calls.specs.declared.requests.Answer.TheVariants.{Ran, Refused, NoTree}
 use Rattle.calls.specs.Steps.{Text, letter_of, give_refusal}
-use Rattle.calls.specs.Histories.{World, Moment, tree_at, ran_as, RunFollows, GiveFollows, TreeFollows, there, nowhere, Follows, History, start, next}
+use Rattle.calls.specs.Histories.{Answer, World, Moment, tree_at, ran_as, RunFollows, GiveFollows, TreeFollows, there, nowhere, Follows, History, start, next}
 use Rattle.calls.specs.Promise.{Journals, Alike}
+use Rattle.walk.proofs.Fitting.{each_imp}
 use Rattle.calls.proofs.Naming.{member}
 use Rattle.calls.proofs.Fates.{cases_option, added_rows}
 
@@ -47,12 +45,12 @@ tag_other up m (r ∷ js) i e =
 
 -- an identifier that some row is of gets the tag of its declaration's letter
 tag_all : (up : ℕ → Bool) (m : Model) (js : List JournalRow) (i : ℕ) → Known m (ident i) → names i js ≡ true → tag_of (name_all up m js) i ≡ cond (up (declaration_of m i)) 3 2
-tag_all up m [] i h e = absurd (let z : ◌≡◌ {A = ℕ} 0 1 = cc in omega arith)
+tag_all up m [] i h e = cc
 tag_all up m (r ∷ js) i h e =
     ⊎_elim
     (λ later. tag_all up (name_one up m r) js i (simp length-set h) later ∙ ap (λ d. cond (up d) 3 2) (declaration_one up m r i))
     (λ none.
-    let here : eqb i r.identifier.0 ≡ true = ⊎_elim (λ x. x) (λ x. absurd (let z : ◌≡◌ {A = Bool} true false = sym x ∙ none in let k : ◌≡◌ {A = ℕ} 0 1 = cc in omega arith)) (or_cases (eqb i r.identifier.0) (names i js) e) in
+    let here : eqb i r.identifier.0 ≡ true = ⊎_elim (λ x. x) (λ x. cc) (or_cases (eqb i r.identifier.0) (names i js) e) in
     let q = eqb-true i r.identifier.0 here in
     tag_other up (name_one up m r) js i none
     ∙ ap (tag_of (name_one up m r)) q
@@ -92,10 +90,6 @@ pub record Lettered (m : Moment) (up : ℕ → Bool) (i : ℕ) : Type 0 where
   pub tag : tag_of m.after.env i ≡ cond (up (declaration_of m.before.env i)) 3 2
   pub low : declaration_of m.before.env i < 65536
 
-each_first : (m : Model) (rows : List JournalRow) → Each (λ r. Known m r.identifier × (tag_of m r.identifier.0 ≡ 0)) rows → Each (λ r. Known m (ident r.identifier.0)) rows
-each_first m [] h = tt
-each_first m (r ∷ rows) h = (h.0.0, each_first m rows h.1)
-
 module _ (m : Moment) (t : ℕ) (ps : Span) (i : ℕ) (j : Journals i m) where
   run_letter : RunFollows m.before t ps m.answer m.after → Lettered m (reasons.upper m.before.env (tree_at m.before t).rows) i
   run_letter f =
@@ -104,18 +98,18 @@ module _ (m : Moment) (t : ℕ) (ps : Span) (i : ℕ) (j : Journals i m) where
       let a = f.step.accepted e in
       let rows = reasons.journal m.before.env ps (tree_at m.before t).rows in
       let is : names i rows ≡ true = ap (names i) (sym (added_rows m.before.env m.after.env rows a.names_them)) ∙ j.journalled in
-      let known : i < length m.before.env.identifiers = member (λ k. k < length m.before.env.identifiers) rows i (each_first m.before.env rows a.names_them.unnamed) is in
+      let known : i < length m.before.env.identifiers = member (λ k. k < length m.before.env.identifiers) rows i (each_imp _ _ (λ r h. h.0) rows a.names_them.unnamed) is in
       let s = checked.sound_tables m.before.env m.before.notes ps (checked.run_tables m.before.env m.before.notes ps (tree_at m.before t).rows e) in
       record {
         tag = ap (λ (x : Model). tag_of x i) a.env ∙ tag_all (reasons.upper m.before.env (tree_at m.before t).rows) m.before.env rows i known is;
         low = omega (arith, s.declared i known, s.identifiers);
       })
-      (λ e. absurd (let q : Ran j.place j.count ≡ Refused e.0 = sym j.accepted ∙ f.told ∙ ap ran_as (f.step.refused e.0 e.1).answers in let z : ◌≡◌ {A = ℕ} 0 1 = cc in omega arith))
+      (λ e. cc (sym j.accepted ∙ f.told ∙ ap ran_as (f.step.refused e.0 e.1).answers))
       (cases_option (run_refusal m.before.env m.before.notes ps (tree_at m.before t).rows))
 
   tree_letter : TreeFollows m.before t ps m.answer m.after → Lettered m (reasons.upper m.before.env (tree_at m.before t).rows) i
   tree_letter (there h f) = run_letter f
-  tree_letter (nowhere h e same) = absurd (let q : Ran j.place j.count ≡ NoTree = sym j.accepted ∙ e in let z : ◌≡◌ {A = ℕ} 0 1 = cc in omega arith)
+  tree_letter (nowhere h e same) = cc
 
   pub call_letter : (text : Text) → m.request ≡ Run t ps → Follows text m.before m.request m.answer m.after → Lettered m (reasons.upper m.before.env (tree_at m.before t).rows) i
   call_letter text asked f = let P : Request → Type 0 = λ q. Follows text m.before q m.answer m.after in tree_letter (subst P asked f)

@@ -8,9 +8,15 @@ use Rattle.hir.specs.Scratches.{Notes}
 use Rattle.reactive.specs.Rows.{Reading, at_place, rewound}
 use Rattle.calls.specs.declared.requests.Request.{Request}
 use Rattle.calls.specs.declared.requests.Request.TheVariants.{Run, Give, Look, Spell}
-use Rattle.calls.specs.declared.requests.Answer.{Answer}
-use Rattle.calls.specs.declared.requests.Answer.TheVariants.{Ran, Given, Tag, Length, Refused, NoTree}
+use Rattle.calls.specs.declared.requests.Reply.{Reply}
+use Rattle.calls.specs.declared.requests.Reply.TheVariants.{Ran, Given, Tag, Length}
+use Rattle.calls.specs.declared.requests.RequestError.{RequestError}
+use Rattle.calls.specs.declared.requests.RequestError.TheVariants.{Refused, NoTree}
 use Rattle.calls.specs.Steps.{Text, GiveStep, LookStep, SpellStep, RunStep}
+
+-- what a request got
+abbrev pub Answer : Type 0
+Answer = Result Reply RequestError
 
 -- all that a list of calls can alter: the environment, scratch, the trees' sources, the text buffer
 pub record World : Type 0 where
@@ -32,22 +38,23 @@ pub record Moment : Type 0 where
 abbrev pub tree_at : World → ℕ → Reading
 tree_at w t = slice_index_or w.trees t (at_place [] 0)
 
--- the answers of the four calls, as answers in a list
+-- the answer of a call, as the answer of a request
+abbrev pub told_as : {X : Type 0} → (X → Reply) → Result X Refusal → Answer
+told_as reply (Ok x) = Ok (reply x)
+told_as reply (Err r) = Err (Refused r)
+
+-- the answers of the four calls, as answers of requests
 abbrev pub ran_as : Result (ℕ × ℕ) Refusal → Answer
-ran_as (Ok p) = Ran p.0 p.1
-ran_as (Err r) = Refused r
+ran_as = told_as (λ p. Ran p.0 p.1)
 
 abbrev pub given_as : Result (Unit {0}) Refusal → Answer
-given_as (Ok u) = Given
-given_as (Err r) = Refused r
+given_as = told_as (λ u. Given)
 
 abbrev pub looked_as : Result ℕ Refusal → Answer
-looked_as (Ok t) = Tag t
-looked_as (Err r) = Refused r
+looked_as = told_as Tag
 
 abbrev pub spelled_as : Result ℕ Refusal → Answer
-spelled_as (Ok n) = Length n
-spelled_as (Err r) = Refused r
+spelled_as = told_as Length
 
 -- a run over a tree that is there: that tree's source is rewound, in every case
 pub record RunFollows (w : World) (t : ℕ) (ps : Span) (a : Answer) (v : World) : Type 0 where
@@ -78,7 +85,7 @@ pub record SpellFollows (text : Text) (w : World) (i : IdentifierId) (a : Answer
 -- the tree asked for is there and the run follows, or it is not there and nothing is done
 pub data TreeFollows (w : World) (t : ℕ) (ps : Span) (a : Answer) (v : World) : Type 0 where
   there : t < length w.trees → RunFollows w t ps a v → TreeFollows w t ps a v
-  nowhere : length w.trees ≤ t → a ≡ NoTree → v ≡ w → TreeFollows w t ps a v
+  nowhere : length w.trees ≤ t → a ≡ Err NoTree → v ≡ w → TreeFollows w t ps a v
 
 -- a call follows from the world before it, by the relation that its own contract states
 abbrev pub Follows : Text → World → Request → Answer → World → Type 0

@@ -1,5 +1,5 @@
 -- The promise over any list of calls. Assumes nothing.
-use Rattle.std.specs.Prelude.{◌≡◌, ℕ, Bool, true, not, ◌⊎◌, List, [], ◌∷◌, ◌++◌, drop, Result, ◌==◌}
+use Rattle.std.specs.Prelude.{◌≡◌, ℕ, Bool, true, not, ◌⊎◌, List, [], ◌∷◌, ◌++◌, drop, Ok, Result, ◌==◌}
 use Rattle.hir.specs.declared.refusal.Refusal.{Refusal}
 use Rattle.hir.specs.declared.span.Span.{Span}
 use Rattle.hir.specs.declared.tables.JournalRow.{JournalRow}
@@ -9,20 +9,19 @@ use Rattle.hir.specs.Spans.{ident}
 use Rattle.reactive.specs.Rows.{Row}
 use Rattle.calls.specs.declared.requests.Request.{Request}
 use Rattle.calls.specs.declared.requests.Request.TheVariants.{Run, Give, Look}
-use Rattle.calls.specs.declared.requests.Answer.{Answer}
-use Rattle.calls.specs.declared.requests.Answer.TheVariants.{Ran, Given, Tag}
+use Rattle.calls.specs.declared.requests.Reply.TheVariants.{Ran, Given, Tag}
 use Rattle.naming.specs.Texts.{Lawful}
 use Rattle.reasons.specs.Coverings as reasons
 use Rattle.reasons.specs.Journals.{names}
 use Rattle.calls.specs.Steps.{Text, promoted_name, SameSize, RunStep}
-use Rattle.calls.specs.Histories.{World, Moment, tree_at, History, Somewhere, Told}
+use Rattle.calls.specs.Histories.{Answer, World, Moment, tree_at, History, Somewhere, Told}
 
 abbrev pub is_named : World → ℕ → Bool
 is_named w i = not (tag_of w.env i == 0)
 
 -- an accepted gift to identifier i
 abbrev pub Gives : ℕ → Moment → Type 0
-Gives i m = (m.request ≡ Give (ident i)) × (m.answer ≡ Given)
+Gives i m = (m.request ≡ Give (ident i)) × (m.answer ≡ Ok Given)
 
 -- the journal rows that a moment added
 abbrev pub added : Moment → List JournalRow
@@ -35,7 +34,7 @@ pub record Journals (i : ℕ) (m : Moment) : Type 0 where
   pub place : ℕ
   pub count : ℕ
   pub asked : m.request ≡ Run tree parameters
-  pub accepted : m.answer ≡ Ran place count
+  pub accepted : m.answer ≡ Ok (Ran place count)
   pub journalled : names i (added m) ≡ true
 
 -- the same, by the tag t
@@ -76,12 +75,12 @@ pub record Promise (text : Text) (w : World) (ms : List Moment) (u : World) : Ty
   -- the journal is what it was at the start, and then the rows of the accepted runs in their order
   pub journal : journal_of u.env ≡ journal_of w.env ++ all_added ms
   -- each accepted run journals exactly the unnamed identifiers that a reason covers, each once, in the order of their coverings, under the first
-  pub covered : (before rest : List Moment) (m : Moment) (t : ℕ) (ps : Span) (place count : ℕ) → ms ≡ before ++ (m ∷ rest) → m.request ≡ Run t ps → m.answer ≡ Ran place count → added m ≡ reasons.journal m.before.env ps (tree_at m.before t).rows
+  pub covered : (before rest : List Moment) (m : Moment) (t : ℕ) (ps : Span) (place count : ℕ) → ms ≡ before ++ (m ∷ rest) → m.request ≡ Run t ps → m.answer ≡ Ok (Ran place count) → added m ≡ reasons.journal m.before.env ps (tree_at m.before t).rows
   -- two identifiers that one run named spell alike exactly when their declarations are equal, under every naming that keeps the law
   pub alike : (before rest : List Moment) (m : Moment) (i j : ℕ) → ms ≡ before ++ (m ∷ rest) → Journals i m → Journals j m → (naming : Text) → Lawful naming → Alike naming u.env i j
   -- the tags now follow from the calls, and an accepted look answers the tag that follows from the calls before it
   pub tags : (i : ℕ) → TagFollows w ms i (tag_of u.env i)
-  pub looks : (before rest : List Moment) (m : Moment) (i t : ℕ) → ms ≡ before ++ (m ∷ rest) → m.request ≡ Look (ident i) → m.answer ≡ Tag t → TagFollows w before i t
+  pub looks : (before rest : List Moment) (m : Moment) (i t : ℕ) → ms ≡ before ++ (m ∷ rest) → m.request ≡ Look (ident i) → m.answer ≡ Ok (Tag t) → TagFollows w before i t
 
 -- the promise for whoever makes the calls one by one: it holds of every list of calls that follow one another
 abbrev pub EveryHistory : Type 0

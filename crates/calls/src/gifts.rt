@@ -1,31 +1,38 @@
 ghost use Rattle.std.specs.Prelude.{◌≡◌};
 ghost use Rattle.hir.specs.Environments.{model};
-ghost use Rattle.calls.specs.Steps.{GiveStep, LookStep, SpellStep};
+ghost use Rattle.hir.specs.Refusals.{answered};
+ghost use Rattle.calls.specs.Steps.{GiveStep, LookStep, SpellStep, look_refusal};
 
-use hir::environment::Environment;
+use hir::environment::{Environment, MOST_IDENTIFIERS};
 use hir::ids::IdentifierId;
 use hir::refusal::Refusal;
 use naming::letter::Letter;
 use naming::naming::Naming;
 
-// More identifiers than an environment may have.
-const MOST_IDENTIFIERS: usize = 65536;
+// The place of an identifier's row, where the environment keeps the limit and has the identifier.
+fn place_of(env: &Environment, id: IdentifierId) -> Result<usize, Refusal>
+    ensures { result ≡ answered (look_refusal (model env.now) id) id.0 }
+{
+    if env.identifiers.len() > MOST_IDENTIFIERS {
+        return Err(Refusal::Limit);
+    }
+    let place = id.0 as usize;
+    if place >= env.identifiers.len() {
+        return Err(Refusal::Absent);
+    }
+    Ok(place)
+}
 
 // Gives an identifier that has no name an author's name.
 pub fn give(env: &mut Environment, id: IdentifierId) -> Result<(), Refusal>
     ensures { GiveStep (model env.old) id result (model env.new) }
 {
-    if env.identifiers.len() > MOST_IDENTIFIERS {
-        return Err(Refusal::Limit);
-    }
-    let i = id.0 as usize;
-    if i >= env.identifiers.len() {
-        return Err(Refusal::Absent);
-    }
-    if env.identifiers[i].tag != 0 {
+    let i = place_of(env, id)?;
+    let row = &mut env.identifiers[i];
+    if row.tag != 0 {
         return Err(Refusal::Named);
     }
-    env.identifiers[i].tag = 1;
+    row.tag = 1;
     Ok(())
 }
 
@@ -33,13 +40,7 @@ pub fn give(env: &mut Environment, id: IdentifierId) -> Result<(), Refusal>
 pub fn look(env: &Environment, id: IdentifierId) -> Result<u8, Refusal>
     ensures { LookStep (model env.now) id result }
 {
-    if env.identifiers.len() > MOST_IDENTIFIERS {
-        return Err(Refusal::Limit);
-    }
-    let i = id.0 as usize;
-    if i >= env.identifiers.len() {
-        return Err(Refusal::Absent);
-    }
+    let i = place_of(env, id)?;
     Ok(env.identifiers[i].tag)
 }
 
@@ -52,24 +53,15 @@ pub fn spell<N: Naming>(
 ) -> Result<usize, Refusal>
     ensures { SpellStep (N.Naming.text naming.now) (model env.now) id buffer.old result buffer.new }
 {
-    if env.identifiers.len() > MOST_IDENTIFIERS {
-        return Err(Refusal::Limit);
-    }
-    let i = id.0 as usize;
-    if i >= env.identifiers.len() {
-        return Err(Refusal::Absent);
-    }
+    let i = place_of(env, id)?;
     let row = env.identifiers[i];
     if row.declaration.0 as usize >= env.identifiers.len() || row.tag > 3 {
         return Err(Refusal::Row);
     }
-    if row.tag < 2 {
-        return Err(Refusal::NotPromoted);
-    }
-    let letter = if row.tag == 3 {
-        Letter::Upper
-    } else {
-        Letter::Lower
+    let letter = match row.tag {
+        2 => Letter::Lower,
+        3 => Letter::Upper,
+        _ => return Err(Refusal::NotPromoted),
     };
     naming.write(letter, row.declaration.0 as u16, buffer)
 }

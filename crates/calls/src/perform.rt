@@ -6,14 +6,14 @@ ghost use Rattle.calls.specs.Histories.{world, Follows};
 ghost use Rattle.calls.specs.Promise.{Performed};
 
 use crate::gifts::{give, look, spell};
-use crate::requests::{Answer, Request};
+use crate::requests::{Answer, Reply, Request, RequestError};
 use crate::run::run;
 use hir::environment::Environment;
 use hir::scratch::Scratch;
 use naming::naming::Naming;
 use reactive::source::TreeSource;
 
-// Makes one call.
+// Makes one call. What it may alter is lent part by part: a struct around the parts would not tell its lender what it left.
 fn call<S: TreeSource, N: Naming>(
     env: &mut Environment,
     scratch: &mut Scratch,
@@ -29,25 +29,18 @@ fn call<S: TreeSource, N: Naming>(
     match request {
         Request::Run(tree, parameters) => {
             if tree >= trees.len() {
-                return Answer::NoTree;
+                return Err(RequestError::NoTree);
             }
-            match run(env, scratch, &mut trees[tree], parameters) {
-                Ok((place, count)) => Answer::Ran(place, count),
-                Err(refusal) => Answer::Refused(refusal),
-            }
+            // by index, since nothing is known of the trees behind a `get_mut`
+            let (place, count) = run(env, scratch, &mut trees[tree], parameters)?;
+            Ok(Reply::Ran(place, count))
         }
-        Request::Give(id) => match give(env, id) {
-            Ok(()) => Answer::Given,
-            Err(refusal) => Answer::Refused(refusal),
-        },
-        Request::Look(id) => match look(env, id) {
-            Ok(tag) => Answer::Tag(tag),
-            Err(refusal) => Answer::Refused(refusal),
-        },
-        Request::Spell(id) => match spell(env, id, naming, text) {
-            Ok(length) => Answer::Length(length),
-            Err(refusal) => Answer::Refused(refusal),
-        },
+        Request::Give(id) => {
+            give(env, id)?;
+            Ok(Reply::Given)
+        }
+        Request::Look(id) => Ok(Reply::Tag(look(env, id)?)),
+        Request::Spell(id) => Ok(Reply::Length(spell(env, id, naming, text)?)),
     }
 }
 
@@ -69,8 +62,9 @@ pub fn perform<S: TreeSource, N: Naming>(
     ensures others { drop result answers.new ≡ drop result answers.old }
 {
     let count = requests.len().min(answers.len());
-    for i in 0..count {
-        answers[i] = call(env, scratch, trees, naming, text, requests[i]);
+    for (i, request) in requests[..count].iter().enumerate() {
+        // by index, since nothing is known of the answers behind an `iter_mut` in a `zip`
+        answers[i] = call(env, scratch, trees, naming, text, *request);
     }
     count
 }

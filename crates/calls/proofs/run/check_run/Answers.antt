@@ -1,29 +1,21 @@
-use Rattle.std.proofs.Common.{length, sym, ap, ◌∙◌}
+use Rattle.std.proofs.Common.{length, Err, sym, ap, ◌∙◌}
 use Rattle.std.proofs.lemmas.Result.{err_from_is_err_and}
 use Rattle.hir.specs.Environments.{model}
 use Rattle.hir.specs.Refusals.{answered, or_else}
-use Rattle.reactive.specs.Rows.{Reading, rewound}
+use Rattle.reactive.specs.Rows.{Reading}
 use Rattle.checks.specs.Rows.{sizes, tree_refusal}
 use Rattle.calls.proofs.Passing.{answered_none, answered_some}
 use Rattle.calls.proofs.run.check_run.Goals as goal
 
-pub returns-in_err-check_tables : goal.returns-in_err-check_tables
-returns-in_err-check_tables g c =
+pub returns-in_err-check_tables-clause-value : goal.returns-in_err-check_tables-clause-value
+returns-in_err-check_tables-clause-value g c =
     let p = err_from_is_err_and c.from_residual.result c.from_residual.ensures.1 in
     let tree = tree_refusal (sizes (model c.args.env.now)) (length c.args.scratch.now.trail.now) (g.S.TreeSource.reading c.args.source.now).rows in
-    rw (p.1, p.2)
-    (record {
-      value = sym (ap (λ o. answered (or_else o tree) tt) (answered_some _ _ c.in_err-check_tables.ensures));
-      source = c.rewind.ensures;
-    })
+    p.1 ∙ ap Err p.2 ∙ sym (ap (λ o. answered (or_else o tree) tt) (answered_some _ _ c.in_err-check_tables.ensures))
 
-pub returns : goal.returns
-returns g c =
+pub returns-clause-value : goal.returns-clause-value
+returns-clause-value g c =
     let tree = tree_refusal (sizes (model c.args.env.now)) (length c.args.scratch.now.trail.now) in
-    record {
-      value =
-          c.check_rows.ensures.value
-          ∙ ap (λ (s : Reading). answered (tree s.rows) tt) c.rewind.ensures
-          ∙ sym (ap (λ o. answered (or_else o (tree (g.S.TreeSource.reading c.args.source.now).rows)) tt) (answered_none _ _ c.in_ok-check_tables.ensures));
-      source = c.check_rows.ensures.source ∙ ap (λ (s : Reading). rewound s) c.rewind.ensures;
-    }
+    c.check_rows.ensures.value
+    ∙ ap (λ (s : Reading). answered (tree s.rows) tt) c.rewind.ensures
+    ∙ sym (ap (λ o. answered (or_else o (tree (g.S.TreeSource.reading c.args.source.now).rows)) tt) (answered_none _ _ c.in_ok-check_tables.ensures))
