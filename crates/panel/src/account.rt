@@ -1,11 +1,12 @@
-// What is printed of a panel.
+// What is printed of a panel, by functions and no Display: the words are the panel's own, and the cases have others for the same values.
 use crate::words::{code_name, kind_name, reason_words, refusal_words};
 use calls::gifts::spell;
-use calls::requests::{Answer, Request};
+use calls::requests::{Answer, Reply, Request, RequestError};
 use hir::environment::Environment;
 use hir::ids::IdentifierId;
 use hir::tables::JournalRow;
 use naming::decimal::Decimal;
+use reactive::code::Code;
 use reactive::row::{Number, RowHead};
 use reactive::source::TreeSource;
 use std::io;
@@ -20,7 +21,7 @@ fn print_fields(rt: &HostRuntime, row: &RowHead) -> io::Result<()> {
         Some(Number::Function(function)) => print!(rt; " function {}", function.0)?,
         None => {}
     }
-    if row.code == 5 {
+    if row.is(Code::Leaf) {
         print!(rt; " {}", kind_name(row.kind))?;
     }
     Ok(())
@@ -28,28 +29,28 @@ fn print_fields(rt: &HostRuntime, row: &RowHead) -> io::Result<()> {
 
 // Prints the operands of the row last given.
 fn print_operands<S: TreeSource>(rt: &HostRuntime, row: &RowHead, source: &S) -> io::Result<()> {
-    for i in 0..row.operands {
-        if let Some(id) = source.operand(i) {
-            print!(rt; " ${}", id.0)?;
-        }
+    for id in (0..row.operands).filter_map(|i| source.operand(i)) {
+        print!(rt; " ${}", id.0)?;
     }
     Ok(())
 }
 
-// Prints the rows, indented by their depth.
-pub fn print_rows<S: TreeSource>(rt: &HostRuntime, source: &mut S, most: usize) -> io::Result<()> {
+// Prints the row last given, indented by its depth.
+fn print_row<S: TreeSource>(rt: &HostRuntime, row: &RowHead, source: &S) -> io::Result<()> {
+    for _ in 0..row.depth {
+        print!(rt; "  ")?;
+    }
+    print!(rt; "{}", code_name(row.code))?;
+    print_fields(rt, row)?;
+    print_operands(rt, row, source)?;
+    println!(rt; "")
+}
+
+// Prints all rows.
+pub fn print_rows<S: TreeSource>(rt: &HostRuntime, source: &mut S) -> io::Result<()> {
     source.rewind();
-    for _ in 0..most {
-        let Some(row) = source.next() else {
-            break;
-        };
-        for _ in 0..row.depth {
-            print!(rt; "  ")?;
-        }
-        print!(rt; "{}", code_name(row.code))?;
-        print_fields(rt, &row)?;
-        print_operands(rt, &row, source)?;
-        println!(rt; "")?;
+    while let Some(row) = source.next() {
+        print_row(rt, &row, source)?;
     }
     source.rewind();
     Ok(())
@@ -68,16 +69,16 @@ fn print_request(rt: &HostRuntime, request: Request) -> io::Result<()> {
 // Prints what was answered.
 fn print_answer(rt: &HostRuntime, answer: Answer) -> io::Result<()> {
     match answer {
-        Answer::Ran(place, count) => println!(rt; "{count} named, from journal row {place} on"),
-        Answer::Given => println!(rt; "given"),
-        Answer::Tag(tag) => println!(rt; "tag {tag}"),
-        Answer::Length(length) => println!(rt; "{length} bytes"),
-        Answer::Refused(refusal) => println!(rt;
+        Ok(Reply::Ran(place, count)) => println!(rt; "{count} named, from journal row {place} on"),
+        Ok(Reply::Given) => println!(rt; "given"),
+        Ok(Reply::Tag(tag)) => println!(rt; "tag {tag}"),
+        Ok(Reply::Length(length)) => println!(rt; "{length} bytes"),
+        Err(RequestError::Refused(refusal)) => println!(rt;
             "refused {}: {}",
             refusal.number(),
             refusal_words(refusal)
         ),
-        Answer::NoTree => println!(rt; "no such tree"),
+        Err(RequestError::NoTree) => println!(rt; "no such tree"),
     }
 }
 
@@ -88,19 +89,11 @@ pub fn print_call(rt: &HostRuntime, request: Request, answer: Answer) -> io::Res
     print_answer(rt, answer)
 }
 
-// Prints the bytes of a name.
-fn print_text(rt: &HostRuntime, text: &[u8]) -> io::Result<()> {
-    for byte in text {
-        print!(rt; "{}", *byte as char)?;
-    }
-    Ok(())
-}
-
 // Prints the promoted name of an identifier in digits, or `?` where it has none.
 fn print_name(rt: &HostRuntime, env: &Environment, id: IdentifierId) -> io::Result<()> {
     let mut text = [0u8; 12];
     match spell(env, id, &Decimal, &mut text) {
-        Ok(length) => print_text(rt, &text[0..length.min(12)]),
+        Ok(length) => print!(rt; "{}", text[..length].escape_ascii()),
         Err(_) => print!(rt; "?"),
     }
 }
@@ -118,16 +111,16 @@ fn print_journal_row(rt: &HostRuntime, env: &Environment, row: JournalRow) -> io
 
 // Prints the journal.
 pub fn print_journal(rt: &HostRuntime, env: &Environment) -> io::Result<()> {
-    for i in 0..env.count.min(env.journal.len()) {
-        print_journal_row(rt, env, env.journal[i])?;
+    for row in env.journal.iter().take(env.count) {
+        print_journal_row(rt, env, *row)?;
     }
     Ok(())
 }
 
 // Prints each identifier that stays inline.
 pub fn print_inline(rt: &HostRuntime, env: &Environment) -> io::Result<()> {
-    for i in 0..env.identifiers.len() {
-        if env.identifiers[i].tag == 0 {
+    for (i, row) in env.identifiers.iter().enumerate() {
+        if row.tag == 0 {
             println!(rt; "${i} stays inline")?;
         }
     }

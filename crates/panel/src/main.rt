@@ -7,7 +7,7 @@ mod words;
 
 use account::{print_call, print_inline, print_journal, print_rows};
 use calls::perform::perform;
-use calls::requests::{Answer, Request};
+use calls::requests::{Answer, Request, RequestError};
 use hir::environment::Environment;
 use hir::ids::{IdentifierId, ScopeId};
 use hir::scratch::{Scratch, Trail, Work};
@@ -58,8 +58,8 @@ fn name_panel(
     };
     let mut text = [0u8; 12];
     let requests = requests();
-    let mut answers = [Answer::NoTree; 6];
-    perform(
+    let mut answers: [Answer; 6] = [Err(RequestError::NoTree); 6];
+    let made = perform(
         env,
         &mut scratch,
         trees,
@@ -68,8 +68,8 @@ fn name_panel(
         &requests,
         &mut answers,
     );
-    for i in 0..6 {
-        print_call(rt, requests[i], answers[i])?;
+    for (request, answer) in requests.iter().zip(&answers).take(made) {
+        print_call(rt, *request, *answer)?;
     }
     Ok(())
 }
@@ -77,10 +77,7 @@ fn name_panel(
 fn main(rt: HostRuntime) -> io::Result<()> {
     let mut identifiers = tables::identifiers();
     let scopes = tables::scopes();
-    let functions = [Function {
-        parameters: tables::parameters(),
-        nested: tables::parameters(),
-    }; 0];
+    let functions: [Function; 0] = [];
     let mut journal = [JournalRow {
         identifier: IdentifierId(0),
         reason: Reason::OwnParameter,
@@ -89,7 +86,7 @@ fn main(rt: HostRuntime) -> io::Result<()> {
     let rows = tables::rows();
     let mut trees = [TableSource::new(&rows, &POOL)];
     println!(rt; "The panel's rows:")?;
-    print_rows(&rt, &mut trees[0], ROWS)?;
+    print_rows(&rt, &mut trees[0])?;
     println!(rt; "\nThe calls:")?;
     name_panel(&rt, &mut env, &mut trees)?;
     println!(rt; "\nNamed:")?;

@@ -12,6 +12,7 @@ use hir::tables::{Identifier, Scope};
 use reactive::code::Code;
 use reactive::row::Number;
 use reactive::table::RowEntry;
+use std::array;
 
 // How many identifiers the panel has, and how many rows.
 pub const IDENTIFIERS: usize = 8;
@@ -35,14 +36,10 @@ pub fn parameters() -> Span {
 
 // Identifier i has declaration i and no name.
 pub fn identifiers() -> [Identifier; IDENTIFIERS] {
-    let mut rows = [Identifier {
-        declaration: DeclarationId(0),
+    array::from_fn(|i| Identifier {
+        declaration: DeclarationId(i as u32),
         tag: 0,
-    }; IDENTIFIERS];
-    for i in 0..IDENTIFIERS {
-        rows[i].declaration = DeclarationId(i as u32);
-    }
-    rows
+    })
 }
 
 // The scope that keeps the element, identifier 7.
@@ -54,15 +51,12 @@ pub fn scopes() -> [Scope; 1] {
     }]
 }
 
+// A row without kind and lists.
 fn row(depth: u32, code: Code, identifier: Option<u32>, number: Option<Number>) -> RowEntry {
-    let identifier = match identifier {
-        Some(i) => Some(IdentifierId(i)),
-        None => None,
-    };
     RowEntry {
         depth,
         code: code as u8,
-        identifier,
+        identifier: identifier.map(IdentifierId),
         number,
         kind: 0,
         mode: 0,
@@ -71,16 +65,13 @@ fn row(depth: u32, code: Code, identifier: Option<u32>, number: Option<Number>) 
     }
 }
 
+// A Leaf.
 fn leaf(depth: u32, kind: u8, operands: Span, marks: Span) -> RowEntry {
     RowEntry {
-        depth,
-        code: Code::Leaf as u8,
-        identifier: None,
-        number: None,
         kind,
-        mode: 0,
         operands,
         marks,
+        ..row(depth, Code::Leaf, None, None)
     }
 }
 

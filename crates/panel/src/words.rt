@@ -1,4 +1,4 @@
-// Codes, kinds, reasons and refusals in words.
+// Codes, kinds, reasons and refusals in words, by functions and no Display: the words are the panel's own, and `hir` tells numbers alone.
 use hir::refusal::Refusal;
 use hir::tables::Reason;
 
@@ -77,12 +77,12 @@ const KINDS: [&str; 42] = [
 
 // The name of a row's code.
 pub fn code_name(code: u8) -> &'static str {
-    if code < 25 { CODES[code as usize] } else { "?" }
+    CODES.get(usize::from(code)).copied().unwrap_or("?")
 }
 
 // The name of a Leaf's kind.
 pub fn kind_name(kind: u8) -> &'static str {
-    if kind < 42 { KINDS[kind as usize] } else { "?" }
+    KINDS.get(usize::from(kind)).copied().unwrap_or("?")
 }
 
 // Why an identifier got its name.
