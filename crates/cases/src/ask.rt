@@ -4,11 +4,9 @@ use crate::fault::Fault;
 use crate::tree::Tree;
 use calls::gifts::{give, look, spell};
 use calls::perform::perform;
-use calls::requests::Answer;
+use calls::requests::{Answer, Reply, RequestError};
 use calls::run::run;
-use hir::environment::Environment;
 use hir::ids::IdentifierId;
-use hir::scratch::Scratch;
 use naming::decimal::Decimal;
 use naming::naming::Naming;
 use reactive::either::Either;
@@ -18,105 +16,52 @@ use reactive::table::TableSource;
 // A tree as a source of the one sort, and another as one of the other.
 fn mixed<'a>(first: &'a Tree, second: &'a Tree) -> [Either<TableSource<'a>, TableSource<'a>>; 2] {
     [
-        Either::First(TableSource::new(&first.rows, &first.pool)),
-        Either::Second(TableSource::new(&second.rows, &second.pool)),
+        Either::First(first.source()),
+        Either::Second(second.source()),
     ]
 }
 
 impl Case {
     // Runs over a tree. Its source stands one row in, so that the run has to rewind it.
     pub fn run(&mut self, place: usize) -> Result<Answer, Fault> {
-        let Some(tree) = self.trees.get(place) else {
-            return Err(Fault::Line);
-        };
-        let mut source = TableSource::new(&tree.rows, &tree.pool);
+        let mut source = self.trees.get(place).ok_or(Fault::Line)?.source();
         let _ = source.next();
-        let mut env = Environment::new(
-            &mut self.state.identifiers,
-            &self.scopes,
-            &self.functions,
-            &self.pool,
-            &mut self.state.journal,
-        );
-        env.count = self.state.count;
-        let mut scratch = Scratch {
-            work: &mut self.state.work,
-            marks: &mut self.state.marks,
-            trail: &mut self.state.trail,
-        };
-        let answer = match run(&mut env, &mut scratch, &mut source, self.parameters) {
-            Ok((place, count)) => Answer::Ran(place, count),
-            Err(refusal) => Answer::Refused(refusal),
-        };
+        let (mut env, mut scratch) = self.state.lend(&self.tables);
+        let ran = run(&mut env, &mut scratch, &mut source, self.parameters);
         self.state.count = env.count;
-        if source.position == 0 {
-            Ok(answer)
-        } else {
-            Err(Fault::NotRewound)
+        if source.position != 0 {
+            return Err(Fault::NotRewound);
         }
+        let answer = ran.map(|(place, count)| Reply::Ran(place, count));
+        Ok(answer.map_err(RequestError::from))
     }
 
+    // Gives an identifier a name.
     pub fn give(&mut self, id: IdentifierId) -> Answer {
-        let mut env = Environment::new(
-            &mut self.state.identifiers,
-            &self.scopes,
-            &self.functions,
-            &self.pool,
-            &mut self.state.journal,
-        );
-        match give(&mut env, id) {
-            Ok(()) => Answer::Given,
-            Err(refusal) => Answer::Refused(refusal),
-        }
+        let (mut env, _) = self.state.lend(&self.tables);
+        give(&mut env, id)?;
+        Ok(Reply::Given)
     }
 
+    // Looks at the tag of an identifier.
     pub fn look(&mut self, id: IdentifierId) -> Answer {
-        let env = Environment::new(
-            &mut self.state.identifiers,
-            &self.scopes,
-            &self.functions,
-            &self.pool,
-            &mut self.state.journal,
-        );
-        match look(&env, id) {
-            Ok(tag) => Answer::Tag(tag),
-            Err(refusal) => Answer::Refused(refusal),
-        }
+        let (env, _) = self.state.lend(&self.tables);
+        Ok(Reply::Tag(look(&env, id)?))
     }
 
+    // Spells the promoted name of an identifier.
     pub fn spell<N: Naming>(&mut self, id: IdentifierId, naming: &N, buffer: &mut [u8]) -> Answer {
-        let env = Environment::new(
-            &mut self.state.identifiers,
-            &self.scopes,
-            &self.functions,
-            &self.pool,
-            &mut self.state.journal,
-        );
-        match spell(&env, id, naming, buffer) {
-            Ok(length) => Answer::Length(length),
-            Err(refusal) => Answer::Refused(refusal),
-        }
+        let (env, _) = self.state.lend(&self.tables);
+        Ok(Reply::Length(spell(&env, id, naming, buffer)?))
     }
 
     // Makes the calls of the requests over the first two trees, each as another sort of source.
     pub fn perform(&mut self, buffer: &mut [u8], answers: &mut [Answer]) -> Result<usize, Fault> {
-        let (Some(first), Some(second)) = (self.trees.get(0), self.trees.get(1)) else {
+        let [first, second, ..] = self.trees.as_slice() else {
             return Err(Fault::Line);
         };
         let mut sources = mixed(first, second);
-        let mut env = Environment::new(
-            &mut self.state.identifiers,
-            &self.scopes,
-            &self.functions,
-            &self.pool,
-            &mut self.state.journal,
-        );
-        env.count = self.state.count;
-        let mut scratch = Scratch {
-            work: &mut self.state.work,
-            marks: &mut self.state.marks,
-            trail: &mut self.state.trail,
-        };
+        let (mut env, mut scratch) = self.state.lend(&self.tables);
         let made = perform(
             &mut env,
             &mut scratch,

@@ -1,8 +1,8 @@
 // One case: its tables and trees, and the lines that set them up.
 use crate::fault::Fault;
-use crate::state::State;
+use crate::state::{ScratchSize, State, Tables};
 use crate::tree::Tree;
-use crate::words::{byte, first_number, first_word, list, number, two_numbers};
+use crate::words::{first_number, first_word, list, number, two_numbers};
 use calls::requests::Request;
 use hir::ids::{DeclarationId, IdentifierId};
 use hir::span::Span;
@@ -13,24 +13,21 @@ use std::alloc::Global;
 pub struct Case {
     pub heap: Global,
     pub state: State,
-    pub scopes: Vec<Scope>,
-    pub functions: Vec<Function>,
-    pub pool: Vec<u32>,
+    pub tables: Tables,
     pub parameters: Span,
     pub trees: Vec<Tree>,
     pub requests: Vec<Request>,
-    // the case says how much scratch there is
+    // the case says how much scratch there is; how much stands in the state
     scratch_set: bool,
 }
 
 impl Case {
+    // Nothing set up.
     pub fn new(heap: Global) -> Case {
         Case {
             heap,
             state: State::new(heap),
-            scopes: Vec::new(heap),
-            functions: Vec::new(heap),
-            pool: Vec::new(heap),
+            tables: Tables::new(heap),
             parameters: Span { start: 0, count: 0 },
             trees: Vec::new(heap),
             requests: Vec::new(heap),
@@ -77,25 +74,21 @@ impl Case {
         let (declaration, tag) = first_number(rest)?;
         let row = Identifier {
             declaration: DeclarationId(declaration),
-            tag: byte(tag)?,
+            tag: number(tag)?,
         };
-        match self.state.identifiers.get_mut(i as usize) {
-            Some(place) => {
-                *place = row;
-                Ok(())
-            }
-            None => Err(Fault::Line),
-        }
+        let place = self.state.identifiers.get_mut(i as usize);
+        *place.ok_or(Fault::Line)? = row;
+        Ok(())
     }
 
     // `scope DEPENDENCIES DECLARATIONS REASSIGNMENTS`
     fn add_scope(&mut self, text: &str) -> Result<(), Fault> {
         let (first, rest) = first_word(text);
         let (second, third) = first_word(rest);
-        let dependencies = list(&mut self.pool, first)?;
-        let declarations = list(&mut self.pool, second)?;
-        let reassignments = list(&mut self.pool, third)?;
-        self.scopes.push(Scope {
+        let dependencies = list(&mut self.tables.pool, first)?;
+        let declarations = list(&mut self.tables.pool, second)?;
+        let reassignments = list(&mut self.tables.pool, third)?;
+        self.tables.scopes.push(Scope {
             dependencies,
             declarations,
             reassignments,
@@ -106,25 +99,26 @@ impl Case {
     // `function PARAMETERS NESTED`; `next` is the list of the one function that follows
     fn add_function(&mut self, text: &str) -> Result<(), Fault> {
         let (first, second) = first_word(text);
-        let parameters = list(&mut self.pool, first)?;
+        let parameters = list(&mut self.tables.pool, first)?;
         let nested = if second == "next" {
             self.next_function()?
         } else {
-            list(&mut self.pool, second)?
+            list(&mut self.tables.pool, second)?
         };
-        self.functions.push(Function { parameters, nested })?;
+        self.tables.functions.push(Function { parameters, nested })?;
         Ok(())
     }
 
+    // The list of the one function that follows.
     fn next_function(&mut self) -> Result<Span, Fault> {
-        let next = self.functions.len().saturating_add(1);
+        let next = self.tables.functions.len().saturating_add(1);
         let text = next.to_string(self.heap)?;
-        list(&mut self.pool, text.as_str())
+        list(&mut self.tables.pool, text.as_str())
     }
 
     // `parameters LIST`
     fn set_parameters(&mut self, text: &str) -> Result<(), Fault> {
-        self.parameters = list(&mut self.pool, text)?;
+        self.parameters = list(&mut self.tables.pool, text)?;
         Ok(())
     }
 
@@ -140,8 +134,12 @@ impl Case {
     fn set_scratch(&mut self, text: &str) -> Result<(), Fault> {
         let (work, rest) = first_number(text)?;
         let (marks, trail) = two_numbers(rest)?;
-        self.state
-            .set_scratch(self.heap, work as usize, marks as usize, trail as usize)?;
+        let size = ScratchSize {
+            work: work as usize,
+            marks: marks as usize,
+            trail: trail as usize,
+        };
+        self.state.set_scratch(self.heap, size)?;
         self.scratch_set = true;
         Ok(())
     }
@@ -149,7 +147,7 @@ impl Case {
     // `tree`, or `tree ROWS`
     fn add_tree(&mut self, rows: &str) -> Result<(), Fault> {
         let mut tree = Tree::new(self.heap);
-        if rows != "" {
+        if !rows.is_empty() {
             tree.add_rows(rows)?;
         }
         self.trees.push(tree)?;
@@ -158,27 +156,19 @@ impl Case {
 
     // `row ROWS`, into the last tree
     fn add_rows(&mut self, rows: &str) -> Result<(), Fault> {
-        if self.trees.is_empty() {
-            return self.add_tree(rows);
-        }
-        let last = self.last_tree();
-        match self.trees.get_mut(last) {
+        match self.trees.last_mut() {
             Some(tree) => tree.add_rows(rows),
-            None => Err(Fault::Line),
+            None => self.add_tree(rows),
         }
-    }
-
-    fn last_tree(&self) -> usize {
-        self.trees.len().saturating_sub(1)
     }
 
     // The place of the tree that a text has the number of, or of the last one.
     pub fn tree_place(&self, text: &str) -> Result<usize, Fault> {
-        if text == "" {
-            Ok(self.last_tree())
-        } else {
-            Ok(number(text)? as usize)
+        if text.is_empty() {
+            return Ok(self.trees.len().saturating_sub(1));
         }
+        let place: u32 = number(text)?;
+        Ok(place as usize)
     }
 
     // `request run TREE PARAMETERS`, `request give I`, `request look I` or `request spell I`
@@ -187,7 +177,7 @@ impl Case {
         let (target, parameters) = first_number(rest)?;
         let id = IdentifierId(target);
         let request = match word {
-            "run" => Request::Run(target as usize, list(&mut self.pool, parameters)?),
+            "run" => Request::Run(target as usize, list(&mut self.tables.pool, parameters)?),
             "give" => Request::Give(id),
             "look" => Request::Look(id),
             "spell" => Request::Spell(id),
@@ -199,21 +189,22 @@ impl Case {
 
     // The number of rows of the longest tree.
     fn most_rows(&self) -> usize {
-        let mut most = 0usize;
-        for tree in self.trees.iter() {
-            most = most.max(tree.rows.len());
-        }
-        most
+        self.trees
+            .iter()
+            .map(|tree| tree.rows.len())
+            .max()
+            .unwrap_or(0)
     }
 
     // Makes enough scratch, unless the case says how much there is.
     pub fn make_scratch(&mut self) -> Result<(), Fault> {
-        let identifiers = self.state.identifiers.len();
-        let functions = self.functions.len();
-        let rows = self.most_rows();
-        if !self.scratch_set && self.state.scratch_is_short(identifiers, functions, rows) {
-            self.state
-                .set_scratch(self.heap, identifiers, functions, rows)?;
+        let needed = ScratchSize {
+            work: self.state.identifiers.len(),
+            marks: self.tables.functions.len(),
+            trail: self.most_rows(),
+        };
+        if !self.scratch_set && self.state.scratch_is_short(needed) {
+            self.state.set_scratch(self.heap, needed)?;
         }
         Ok(())
     }

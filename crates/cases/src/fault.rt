@@ -23,6 +23,7 @@ impl fmt::Display for Fault {
     }
 }
 
+// By hand, since a derive would need a variant for each of the library's errors that are told alike.
 impl From<AllocError> for Fault {
     fn from(_e: AllocError) -> Fault {
         Fault::Memory

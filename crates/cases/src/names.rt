@@ -1,6 +1,6 @@
 // Codes and kinds by name.
 use crate::fault::Fault;
-use crate::words::byte;
+use crate::words::number;
 
 static CODES: [&str; 25] = [
     "Nothing",
@@ -77,12 +77,11 @@ static KINDS: [&str; 42] = [
 
 // The place of a name, or the number that stands for one.
 fn place(names: &[&str], text: &str) -> Result<u8, Fault> {
-    for i in 0..names.len().min(255) {
-        if names[i] == text {
-            return Ok(i as u8);
-        }
+    let place = names.iter().position(|name| *name == text);
+    match place.map(u8::try_from) {
+        Some(Ok(place)) => Ok(place),
+        _ => number(text),
     }
-    byte(text)
 }
 
 // The code of a row: its name, or any number.

@@ -2,8 +2,8 @@
 use crate::answers::{Said, print_journal, print_tags};
 use crate::case::Case;
 use crate::fault::Fault;
-use crate::words::{first_word, number, two_numbers};
-use calls::requests::Answer;
+use crate::words::{first_word, identifier, two_numbers};
+use calls::requests::{Answer, RequestError};
 use hir::ids::IdentifierId;
 use naming::decimal::Decimal;
 use naming::hexadecimal::Hexadecimal;
@@ -18,8 +18,8 @@ pub fn follow(rt: &HostRuntime, case: &mut Case, line: &str) -> Result<(), Fault
         "case" => begin(rt, case, rest),
         "repeat" => case.repeat(rest),
         "run" => show_run(rt, case, rest),
-        "give" => show_give(rt, case, rest),
-        "look" => show_look(rt, case, rest),
+        "give" => show(rt, case.give(identifier(rest)?)),
+        "look" => show(rt, case.look(identifier(rest)?)),
         "spell" => show_spell(rt, case, &Decimal, rest),
         "spell-hexadecimal" => show_spell(rt, case, &Hexadecimal, rest),
         "perform" => show_perform(rt, case, rest),
@@ -39,31 +39,24 @@ fn begin(rt: &HostRuntime, case: &mut Case, name: &str) -> Result<(), Fault> {
 fn show_run(rt: &HostRuntime, case: &mut Case, text: &str) -> Result<(), Fault> {
     let place = case.tree_place(text)?;
     case.make_scratch()?;
-    let before = case.state.copy(rt.alloc())?;
+    let before = case.state.clone()?;
     let answer = case.run(place)?;
     print!(rt; "{}", Said(answer))?;
-    match answer {
-        Answer::Refused(_) => print_outcome(rt, case.state.same(&before)),
-        _ => print_journal(rt, &case.state, before.count),
+    if answer.is_ok() {
+        return print_journal(rt, &case.state, before.count);
     }
-}
-
-// Ends the line with whether a refused run left everything as it was.
-fn print_outcome(rt: &HostRuntime, same: bool) -> Result<(), Fault> {
-    rt.println(if same { ", unaltered" } else { ", altered" })?;
+    // a refused run leaves everything as it was
+    let outcome = if case.state == before {
+        "unaltered"
+    } else {
+        "altered"
+    };
+    println!(rt; ", {outcome}")?;
     Ok(())
 }
 
-// `give I`
-fn show_give(rt: &HostRuntime, case: &mut Case, text: &str) -> Result<(), Fault> {
-    let answer = case.give(IdentifierId(number(text)?));
-    println!(rt; "{}", Said(answer))?;
-    Ok(())
-}
-
-// `look I`
-fn show_look(rt: &HostRuntime, case: &mut Case, text: &str) -> Result<(), Fault> {
-    let answer = case.look(IdentifierId(number(text)?));
+// Prints an answer on a line of its own: of `give I`, of `look I`, or of a request.
+fn show(rt: &HostRuntime, answer: Answer) -> Result<(), Fault> {
     println!(rt; "{}", Said(answer))?;
     Ok(())
 }
@@ -78,11 +71,7 @@ fn show_spell<N: Naming>(
     let (target, bytes) = two_numbers(text)?;
     let mut buffer = vec![in rt.alloc(); b'.'; bytes as usize]?;
     let answer = case.spell(IdentifierId(target), naming, &mut buffer);
-    print_spelling(rt, answer, &buffer)
-}
-
-fn print_spelling(rt: &HostRuntime, answer: Answer, buffer: &[u8]) -> Result<(), Fault> {
-    let text = from_utf8(buffer)?;
+    let text = from_utf8(&buffer)?;
     println!(rt; "{}, buffer \"{text}\"", Said(answer))?;
     Ok(())
 }
@@ -92,27 +81,13 @@ fn show_perform(rt: &HostRuntime, case: &mut Case, text: &str) -> Result<(), Fau
     let (bytes, room) = two_numbers(text)?;
     case.make_scratch()?;
     let mut buffer = vec![in rt.alloc(); b'.'; bytes as usize]?;
-    let mut answers = vec![in rt.alloc(); Answer::NoTree; room as usize]?;
-    print_performed(rt, case, &mut buffer, &mut answers)
-}
-
-fn print_performed(
-    rt: &HostRuntime,
-    case: &mut Case,
-    buffer: &mut [u8],
-    answers: &mut [Answer],
-) -> Result<(), Fault> {
+    let mut answers = vec![in rt.alloc(); Err(RequestError::NoTree); room as usize]?;
     let before = case.state.count;
-    let made = case.perform(buffer, answers)?;
-    print_answers(rt, answers, made)?;
-    let text = from_utf8(buffer)?;
+    let made = case.perform(&mut buffer, &mut answers)?;
+    for answer in answers.iter().take(made) {
+        show(rt, *answer)?;
+    }
+    let text = from_utf8(&buffer)?;
     print!(rt; "performed {made}, buffer \"{text}\", journal")?;
     print_journal(rt, &case.state, before)
-}
-
-fn print_answers(rt: &HostRuntime, answers: &[Answer], made: usize) -> Result<(), Fault> {
-    for answer in answers.iter().take(made) {
-        println!(rt; "{}", Said(*answer))?;
-    }
-    Ok(())
 }

@@ -1,10 +1,39 @@
-// What calls write: tags, journal and scratch; and whether a refused call left them as they were.
+// The tables of a case: what calls read, and what they write.
+use hir::environment::Environment;
 use hir::ids::{DeclarationId, IdentifierId, ScopeId};
-use hir::scratch::{Trail, Work};
-use hir::tables::{Identifier, JournalRow, Reason};
+use hir::scratch::{Scratch, Trail, Work};
+use hir::tables::{Function, Identifier, JournalRow, Reason, Scope};
 use std::alloc::{AllocError, Global};
 
+// How much scratch there is, or is needed.
+#[derive(Clone, Copy)]
+pub struct ScratchSize {
+    pub work: usize,
+    pub marks: usize,
+    pub trail: usize,
+}
+
+// The tables that calls only read.
 #[derive(Drop)]
+pub struct Tables {
+    pub scopes: Vec<Scope>,
+    pub functions: Vec<Function>,
+    pub pool: Vec<u32>,
+}
+
+impl Tables {
+    // No scopes, no functions, no lists.
+    pub fn new(heap: Global) -> Tables {
+        Tables {
+            scopes: Vec::new(heap),
+            functions: Vec::new(heap),
+            pool: Vec::new(heap),
+        }
+    }
+}
+
+// The tables that calls write, and the scratch.
+#[derive(Clone, PartialEq, Drop)]
 pub struct State {
     pub identifiers: Vec<Identifier>,
     pub journal: Vec<JournalRow>,
@@ -29,17 +58,16 @@ impl State {
 
     // So many identifiers without a name, each with a declaration of its own.
     pub fn set_identifiers(&mut self, heap: Global, count: u32) -> Result<(), AllocError> {
-        let mut identifiers = Vec::new(heap);
-        for i in 0..count {
-            identifiers.push(Identifier {
+        self.identifiers = (0..count)
+            .map(|i| Identifier {
                 declaration: DeclarationId(i),
                 tag: 0,
-            })?;
-        }
-        self.identifiers = identifiers;
+            })
+            .collect(heap)?;
         self.set_journal(heap, count as usize)
     }
 
+    // So many journal rows.
     pub fn set_journal(&mut self, heap: Global, length: usize) -> Result<(), AllocError> {
         self.journal = vec![in heap; JournalRow {
             identifier: IdentifierId(0),
@@ -49,13 +77,7 @@ impl State {
     }
 
     // Scratch of these sizes, full of notes, since no answer may depend on them.
-    pub fn set_scratch(
-        &mut self,
-        heap: Global,
-        work: usize,
-        marks: usize,
-        trail: usize,
-    ) -> Result<(), AllocError> {
+    pub fn set_scratch(&mut self, heap: Global, size: ScratchSize) -> Result<(), AllocError> {
         let full = Work {
             tag: true,
             promoted: true,
@@ -65,91 +87,38 @@ impl State {
             global: true,
             tracked: 1,
         };
-        self.work = vec![in heap; full; work]?;
-        self.marks = vec![in heap; true; marks]?;
+        self.work = vec![in heap; full; size.work]?;
+        self.marks = vec![in heap; true; size.marks]?;
         self.trail = vec![in heap; Trail {
             scope: ScopeId(1),
             link: 1
-        }; trail]?;
+        }; size.trail]?;
         Ok(())
     }
 
-    pub fn scratch_is_short(&self, work: usize, marks: usize, trail: usize) -> bool {
-        self.work.len() < work || self.marks.len() < marks || self.trail.len() < trail
+    // Whether there is less scratch than is needed.
+    pub fn scratch_is_short(&self, needed: ScratchSize) -> bool {
+        self.work.len() < needed.work
+            || self.marks.len() < needed.marks
+            || self.trail.len() < needed.trail
     }
 
-    pub fn copy(&self, heap: Global) -> Result<State, AllocError> {
-        Ok(State {
-            identifiers: self.identifiers.to_vec(heap)?,
-            journal: self.journal.to_vec(heap)?,
-            count: self.count,
-            work: self.work.to_vec(heap)?,
-            marks: self.marks.to_vec(heap)?,
-            trail: self.trail.to_vec(heap)?,
-        })
-    }
-
-    // Whether everything is as in the copy.
-    pub fn same(&self, copy: &State) -> bool {
-        self.count == copy.count
-            && all_same(&self.identifiers, &copy.identifiers)
-            && all_same(&self.journal, &copy.journal)
-            && all_same(&self.work, &copy.work)
-            && self.marks == copy.marks
-            && all_same(&self.trail, &copy.trail)
-    }
-}
-
-// What can be compared with a copy.
-trait Same {
-    fn is(&self, copy: &Self) -> bool;
-}
-
-impl Same for Identifier {
-    fn is(&self, copy: &Identifier) -> bool {
-        self.declaration == copy.declaration && self.tag == copy.tag
-    }
-}
-
-impl Same for JournalRow {
-    fn is(&self, copy: &JournalRow) -> bool {
-        self.identifier == copy.identifier && self.reason == copy.reason
-    }
-}
-
-impl Same for Work {
-    fn is(&self, copy: &Work) -> bool {
-        let flags = (
-            self.tag,
-            self.promoted,
-            self.escaped,
-            self.constant,
-            self.global,
+    // The environment of these tables, and the scratch, lent to calls.
+    pub fn lend<'a>(&'a mut self, tables: &'a Tables) -> (Environment<'a>, Scratch<'a>) {
+        let count = self.count;
+        let mut env = Environment::new(
+            &mut self.identifiers,
+            &tables.scopes,
+            &tables.functions,
+            &tables.pool,
+            &mut self.journal,
         );
-        flags
-            == (
-                copy.tag,
-                copy.promoted,
-                copy.escaped,
-                copy.constant,
-                copy.global,
-            )
-            && self.recorded == copy.recorded
-            && self.tracked == copy.tracked
+        env.count = count;
+        let scratch = Scratch {
+            work: &mut self.work,
+            marks: &mut self.marks,
+            trail: &mut self.trail,
+        };
+        (env, scratch)
     }
-}
-
-impl Same for Trail {
-    fn is(&self, copy: &Trail) -> bool {
-        self.scope == copy.scope && self.link == copy.link
-    }
-}
-
-fn all_same<T: Same>(rows: &[T], copies: &[T]) -> bool {
-    for (row, copy) in rows.iter().zip(copies.iter()) {
-        if !row.is(copy) {
-            return false;
-        }
-    }
-    rows.len() == copies.len()
 }

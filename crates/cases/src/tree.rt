@@ -1,11 +1,11 @@
 // Trees, read row by row.
 use crate::fault::Fault;
 use crate::names::{code, kind};
-use crate::words::{byte, first_word, list, number};
+use crate::words::{first_word, list, number};
 use hir::ids::{FunctionId, IdentifierId, ScopeId};
 use hir::span::Span;
 use reactive::row::Number;
-use reactive::table::RowEntry;
+use reactive::table::{RowEntry, TableSource};
 use std::alloc::Global;
 
 // A table of rows, and the pool of their lists.
@@ -16,6 +16,7 @@ pub struct Tree {
 }
 
 impl Tree {
+    // No rows.
     pub fn new(heap: Global) -> Tree {
         Tree {
             rows: Vec::new(heap),
@@ -31,11 +32,17 @@ impl Tree {
         Ok(())
     }
 
+    // The rows as a source, from the first on.
+    pub fn source(&self) -> TableSource<'_> {
+        TableSource::new(&self.rows, &self.pool)
+    }
+
+    // Adds one row.
     fn add_row(&mut self, text: &str) -> Result<(), Fault> {
         let (depth, rest) = first_word(text);
         let (name, fields) = first_word(rest);
         let mut row = bare_row(number(depth)?, code(name)?);
-        if fields != "" {
+        if !fields.is_empty() {
             set_fields(&mut row, &mut self.pool, fields)?;
         }
         self.rows.push(row)?;
@@ -58,16 +65,16 @@ fn bare_row(depth: u32, code: u8) -> RowEntry {
     }
 }
 
+// Sets the fields `NAME=VALUE` of a row, with a space between two of them.
 fn set_fields(row: &mut RowEntry, pool: &mut Vec<u32>, fields: &str) -> Result<(), Fault> {
     for field in fields.split(' ') {
-        match field.split_once('=') {
-            Some((name, value)) => set_field(row, pool, name, value)?,
-            None => return Err(Fault::Line),
-        }
+        let (name, value) = field.split_once('=').ok_or(Fault::Line)?;
+        set_field(row, pool, name, value)?;
     }
     Ok(())
 }
 
+// Sets a field by its name.
 fn set_field(
     row: &mut RowEntry,
     pool: &mut Vec<u32>,
@@ -75,20 +82,13 @@ fn set_field(
     value: &str,
 ) -> Result<(), Fault> {
     match name {
+        "id" => row.identifier = Some(IdentifierId(number(value)?)),
+        "scope" => row.number = Some(Number::Scope(ScopeId(number(value)?))),
+        "function" => row.number = Some(Number::Function(FunctionId(number(value)?))),
         "kind" => row.kind = kind(value)?,
-        "mode" => row.mode = byte(value)?,
+        "mode" => row.mode = number(value)?,
         "operands" => row.operands = list(pool, value)?,
         "marks" => row.marks = list(pool, value)?,
-        _ => return set_number(row, name, number(value)?),
-    }
-    Ok(())
-}
-
-fn set_number(row: &mut RowEntry, name: &str, value: u32) -> Result<(), Fault> {
-    match name {
-        "id" => row.identifier = Some(IdentifierId(value)),
-        "scope" => row.number = Some(Number::Scope(ScopeId(value))),
-        "function" => row.number = Some(Number::Function(FunctionId(value))),
         _ => return Err(Fault::Line),
     }
     Ok(())

@@ -1,23 +1,24 @@
 // The words, numbers and lists of a line.
 use crate::fault::Fault;
+use hir::ids::IdentifierId;
 use hir::span::Span;
+use std::iter::repeat_n;
+use std::num::ParseIntError;
+use std::str::FromStr;
 
 // The first word of a text, and what follows its space.
 pub fn first_word(text: &str) -> (&str, &str) {
-    match text.split_once(' ') {
-        Some((word, rest)) => (word, rest),
-        None => (text, ""),
-    }
+    text.split_once(' ').unwrap_or((text, ""))
 }
 
 // The number that a text is.
-pub fn number(text: &str) -> Result<u32, Fault> {
-    Ok(text.parse::<u32>()?)
+pub fn number<T: FromStr<Err = ParseIntError>>(text: &str) -> Result<T, Fault> {
+    Ok(text.parse()?)
 }
 
-// The byte that a text is.
-pub fn byte(text: &str) -> Result<u8, Fault> {
-    Ok(text.parse::<u8>()?)
+// The identifier that a text has the number of.
+pub fn identifier(text: &str) -> Result<IdentifierId, Fault> {
+    Ok(IdentifierId(number(text)?))
 }
 
 // The number that a text begins with, and what follows its space.
@@ -33,10 +34,8 @@ pub fn two_numbers(text: &str) -> Result<(u32, u32), Fault> {
 
 // The two numbers of a text, around a mark.
 fn halves(text: &str, mark: char) -> Result<(u32, u32), Fault> {
-    match text.split_once(mark) {
-        Some((left, right)) => Ok((number(left)?, number(right)?)),
-        None => Err(Fault::Line),
-    }
+    let (left, right) = text.split_once(mark).ok_or(Fault::Line)?;
+    Ok((number(left)?, number(right)?))
 }
 
 // How often a number stands in a list, and the number: `4096*7`, or `7` for once.
@@ -48,26 +47,18 @@ fn item(text: &str) -> Result<(u32, u32), Fault> {
     }
 }
 
-fn add_copies(pool: &mut Vec<u32>, copies: u32, value: u32) -> Result<(), Fault> {
-    for _ in 0..copies {
-        pool.push(value)?;
-    }
-    Ok(())
-}
-
+// Adds the numbers of a list to the pool.
 fn add_items(pool: &mut Vec<u32>, text: &str) -> Result<(), Fault> {
     for word in text.split(',') {
         let (copies, value) = item(word)?;
-        add_copies(pool, copies, value)?;
+        pool.extend(repeat_n(value, copies as usize))?;
     }
     Ok(())
 }
 
-fn length(pool: &Vec<u32>) -> Result<u32, Fault> {
-    match u32::try_from(pool.len()) {
-        Ok(n) => Ok(n),
-        Err(_) => Err(Fault::Memory),
-    }
+// How many numbers the pool has, as a place in it.
+fn length(pool: &[u32]) -> Result<u32, Fault> {
+    u32::try_from(pool.len()).map_err(|_| Fault::Memory)
 }
 
 // Adds a list to the pool: `-` for none, `0,3,4096*7`, or `@2+5` for any part of the pool or of what lies beyond.

@@ -74,6 +74,7 @@ fn name_panel(
     Ok(())
 }
 
+// Prints the account: rows, calls, names, and what stays inline.
 fn main(rt: HostRuntime) -> io::Result<()> {
     let mut identifiers = tables::identifiers();
     let scopes = tables::scopes();
