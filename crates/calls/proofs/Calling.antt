@@ -11,10 +11,10 @@ use Rattle.calls.specs.declared.requests.Request.TheVariants.{Run}
 use Rattle.calls.specs.Promise.{Performed}
 use Rattle.calls.specs.Steps.{Text, RunStep}
 use Rattle.calls.proofs.Promises.{promise}
-use Rattle.calls.specs.Histories.{Answer, World, world, Moment, tree_at, ran_as, there, Follows, History, start, next, Told}
+use Rattle.calls.specs.Histories.{RequestAnswer, World, world, Moment, tree_at, ran_as, there, Follows, History, start, next, Told}
 
 -- a run over a tree that is there
-pub run_follows : {X : Type 0} (reading : X → Reading) (text : Text) (m : Model) (n : Notes) (ts : List X) (b : List ℕ) (q : Request) (t : ℕ) (ps : Span) (d x : X) (answer : Result (ℕ × ℕ) Refusal) (after : Model) (notes : Notes) (a : Answer) → q ≡ Run t ps → t < length ts → RunStep m n ps (reading (get_or ts t d)).rows answer after notes → reading x ≡ rewound (reading (get_or ts t d)) → a ≡ ran_as answer → Follows text (world m n (map reading ts) b) q a (world after notes (map reading (set ts t x)) b)
+pub run_follows : {X : Type 0} (reading : X → Reading) (text : Text) (m : Model) (n : Notes) (ts : List X) (b : List ℕ) (q : Request) (t : ℕ) (ps : Span) (d x : X) (answer : Result (ℕ × ℕ) Refusal) (after : Model) (notes : Notes) (a : RequestAnswer) → q ≡ Run t ps → t < length ts → RunStep m n ps (reading (get_or ts t d)).rows answer after notes → reading x ≡ rewound (reading (get_or ts t d)) → a ≡ ran_as answer → Follows text (world m n (map reading ts) b) q a (world after notes (map reading (set ts t x)) b)
 run_follows reading text m n ts b q t ps d x answer after notes a asked here step back told =
     let w = world m n (map reading ts) b in
     let v = world after notes (map reading (set ts t x)) b in
@@ -35,7 +35,7 @@ pub history_push : (text : Text) (w u : World) (ms : List Moment) (m : Moment) �
 history_push text w u [] m start e f = next m e f start
 history_push text w u (y ∷ ms) m (next x h k l) e f = next x h k (history_push text x.after u ms m l e f)
 
-told_push : (qs : List Request) (rs : List Answer) (ms : List Moment) (m : Moment) → length qs ≡ length rs → Told qs rs ms → Told (qs ++ m.request ∷ []) (rs ++ m.answer ∷ []) (ms ++ m ∷ [])
+told_push : (qs : List Request) (rs : List RequestAnswer) (ms : List Moment) (m : Moment) → length qs ≡ length rs → Told qs rs ms → Told (qs ++ m.request ∷ []) (rs ++ m.answer ∷ []) (ms ++ m ∷ [])
 told_push [] [] ms m e h = let P : List Moment → Type 0 = λ xs. Told (m.request ∷ []) (m.answer ∷ []) (xs ++ m ∷ []) in subst P (sym h) (refl, refl, refl)
 told_push [] (r ∷ rs) ms m e h = absurd (omega arith)
 told_push (q ∷ qs) [] ms m e h = absurd (omega arith)
@@ -43,16 +43,16 @@ told_push (q ∷ qs) (r ∷ rs) [] m e h = absurd h
 told_push (q ∷ qs) (r ∷ rs) (x ∷ ms) m e h = (h.0, h.1, told_push qs rs ms m (omega arith) h.2)
 
 -- i calls of a list were made
-pub record Performing (text : Text) (w : World) (requests : List Request) (before answers : List Answer) (i : ℕ) (u : World) : Type 0 where
+pub record Performing (text : Text) (w : World) (requests : List Request) (before answers : List RequestAnswer) (i : ℕ) (u : World) : Type 0 where
   pub moments : List Moment
   pub told : Told (take i requests) (take i answers) moments
   pub history : History text w moments u
   pub others : drop i answers ≡ drop i before
 
-pub performing_none : (text : Text) (w : World) (requests : List Request) (answers : List Answer) → Performing text w requests answers answers 0 w
+pub performing_none : (text : Text) (w : World) (requests : List Request) (answers : List RequestAnswer) → Performing text w requests answers answers 0 w
 performing_none text w requests answers = record { moments = []; told = refl; history = start; others = refl }
 
-pub performing_more : (text : Text) (w u v : World) (requests : List Request) (before answers : List Answer) (n i : ℕ) (d : Request) (a : Answer) → i < n → n ≤ length requests → i < length answers → Performing text w requests before answers i u → Follows text u (get_or (take n requests) i d) a v → Performing text w requests before (set answers i a) (i + 1) v
+pub performing_more : (text : Text) (w u v : World) (requests : List Request) (before answers : List RequestAnswer) (n i : ℕ) (d : Request) (a : RequestAnswer) → i < n → n ≤ length requests → i < length answers → Performing text w requests before answers i u → Follows text u (get_or (take n requests) i d) a v → Performing text w requests before (set answers i a) (i + 1) v
 performing_more text w u v requests before answers n i d a low most room p f =
     let m : Moment = record { before = u; request = get_or requests i d; answer = a; after = v } in
     let P : Request → Type 0 = λ q. Follows text u q a v in
@@ -61,14 +61,14 @@ performing_more text w u v requests before answers n i d a low most room p f =
       moments = p.moments ++ m ∷ [];
       told =
           let Q : List Request → Type 0 = λ qs. Told qs (take (i + 1) (set answers i a)) (p.moments ++ m ∷ []) in
-          let R : List Answer → Type 0 = λ rs. Told (take i requests ++ get_or requests i d ∷ []) rs (p.moments ++ m ∷ []) in
+          let R : List RequestAnswer → Type 0 = λ rs. Told (take i requests ++ get_or requests i d ∷ []) rs (p.moments ++ m ∷ []) in
           subst Q (sym (take_more requests i d (omega arith))) (subst R (sym (take_more_set answers i a room)) (told_push (take i requests) (take i answers) p.moments m same p.told));
       history = history_push text w u p.moments m p.history refl (subst P (get_or-take n requests i d low) f);
       others = drop-set-lt (i + 1) answers i a (omega arith) ∙ sym (drop-drop 1 i answers) ∙ ap (drop 1) p.others ∙ drop-drop 1 i before;
     }
 
 -- the calls that were made keep the promise
-pub performed : (text : Text) (w u : World) (requests : List Request) (before answers : List Answer) (i n : ℕ) → i ≡ n → Performing text w requests before answers i u → Performed text w (take n requests) (take n answers) u
+pub performed : (text : Text) (w u : World) (requests : List Request) (before answers : List RequestAnswer) (i n : ℕ) → i ≡ n → Performing text w requests before answers i u → Performed text w (take n requests) (take n answers) u
 performed text w u requests before answers i n e p =
     let P : ℕ → Type 0 = λ k. Performed text w (take k requests) (take k answers) u in
     subst P e (record { moments = p.moments; told = p.told; promise = promise text w p.moments u p.history })

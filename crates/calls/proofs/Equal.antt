@@ -1,5 +1,5 @@
 -- What settles the answer of a run. Assumes nothing.
-use Rattle.std.proofs.Common.{◌≡◌, ℕ, ◌||◌, ltb, List, length, None, Result, sym, ◌∙◌, ⊎_elim}
+use Rattle.std.proofs.Common.{◌≡◌, ℕ, ◌||◌, ltb, List, length, None, Result, sym, ◌∙◌}
 use Rattle.hir.specs.declared.refusal.Refusal.{Refusal}
 use Rattle.hir.specs.declared.refusal.Refusal.TheVariants as refusals
 use Rattle.hir.specs.declared.span.Span.{Span}
@@ -11,7 +11,7 @@ use Rattle.reactive.specs.Rows.{Row}
 use Rattle.checks.specs.Tables.{passes_limit, bad_row, bad_lists, no_room}
 use Rattle.checks.specs.Rows.{sizes, tree_refusal, run_refusal}
 use Rattle.calls.specs.Steps.{SameSize, RunStep}
-use Rattle.calls.proofs.Fates.{cases_option}
+use Rattle.calls.proofs.Fates.{run_cases}
 
 -- a refusal depends on the sizes of scratch alone
 same_refusal : (m : Model) (ps : Span) (rows : List Row) (n k : Notes) → SameSize n k → run_refusal m k ps rows ≡ run_refusal m n ps rows
@@ -27,13 +27,6 @@ same_refusal m ps rows n k s = (λ i.
 pub equal_runs : (m : Model) (ps : Span) (rows : List Row) (n k : Notes) → SameSize n k → (answer other : Result (ℕ × ℕ) Refusal) (after leaves : Model) (noted left : Notes) → RunStep m n ps rows answer after noted → RunStep m k ps rows other leaves left → (answer ≡ other) × (after ≡ leaves)
 equal_runs m ps rows n k s answer other after leaves noted left a b =
     let same = same_refusal m ps rows n k s in
-    ⊎_elim
-    (λ e.
-    let x = a.accepted e in
-    let y = b.accepted (same ∙ e) in
-    (x.answers ∙ sym y.answers, x.env ∙ sym y.env))
-    (λ e.
-    let x = a.refused e.0 e.1 in
-    let y = b.refused e.0 (same ∙ e.1) in
-    (x.answers ∙ sym y.answers, x.env ∙ sym y.env))
-    (cases_option (run_refusal m n ps rows))
+    run_cases a
+    (λ e x. let y = b.accepted (same ∙ e) in (x.answers ∙ sym y.answers, x.env ∙ sym y.env))
+    (λ r e x. let y = b.refused r (same ∙ e) in (x.answers ∙ sym y.answers, x.env ∙ sym y.env))

@@ -1,5 +1,5 @@
 -- What one call does to an identifier and to the journal. Assumes nothing.
-use Rattle.std.proofs.Common.{◌≡◌, ℕ, ◌<◌, ◌≤◌, Bool, true, false, cond, eqb, ◌⊎◌, List, [], ◌++◌, length, drop, Some, None, Ok, Err, Option, sym, refl, ap, ◌∙◌, inl, inr, ⊎_elim, append-nil, arith, length-take, get_or-set_other, get_or-set_same}
+use Rattle.std.proofs.Common.{◌≡◌, ℕ, ◌<◌, ◌≤◌, Bool, true, false, cond, eqb, ◌⊎◌, List, [], ◌++◌, length, drop, Some, None, Ok, Err, Option, Result, sym, refl, ap, ◌∙◌, subst, inl, inr, ⊎_elim, append-nil, arith, length-take, get_or-set_other, get_or-set_same}
 use Rattle.std.proofs.lemmas.List.{drop_all, drop_at}
 use Rattle.std.proofs.lemmas.Bool.{cases_Bool, cases_eq, eqb-true, leb-false}
 use Rattle.hir.specs.declared.ids.IdentifierId.{IdentifierId}
@@ -16,10 +16,11 @@ use Rattle.checks.specs.Tables.{many_identifiers}
 use Rattle.calls.specs.declared.requests.Request.{Request}
 use Rattle.calls.specs.declared.requests.Request.TheVariants.{Run, Give, Look, Spell}
 use Rattle.calls.specs.declared.requests.Reply.TheVariants.{Ran, Given}
-use Rattle.calls.specs.declared.requests.RequestError.TheVariants.{Refused, NoTree}
 use Rattle.reasons.specs.Coverings as reasons
 use Rattle.reasons.specs.Journals.{names}
-use Rattle.calls.specs.Steps.{Text, absent, give_refusal, Names, RunAccepted}
+use Rattle.hir.specs.Scratches.{Notes}
+use Rattle.reactive.specs.Rows.{Row}
+use Rattle.calls.specs.Steps.{Text, absent, give_refusal, GiveStep, Names, RunAccepted, RunRefused, RunStep}
 use Rattle.calls.specs.Histories.{World, Moment, tree_at, ran_as, given_as, RunFollows, GiveFollows, TreeFollows, there, nowhere, Follows}
 use Rattle.calls.specs.Promise.{Gives, added, Journals}
 use Rattle.walk.proofs.Fitting.{each_imp}
@@ -31,16 +32,30 @@ pub data Fate (i : ℕ) (m : Moment) : Type 0 where
   given : tag_of m.before.env i ≡ 0 → tag_of m.after.env i ≡ 1 → Gives i m → (Journals i m → ⊥) → Fate i m
   named : tag_of m.before.env i ≡ 0 → Promoted (tag_of m.after.env i) → Journals i m → (Gives i m → ⊥) → Fate i m
 
-pub cases_option : {A : Type 0} (o : Option A) → (o ≡ None) ⊎ ((x : A) × (o ≡ Some x))
+cases_option : {A : Type 0} (o : Option A) → (o ≡ None) ⊎ ((x : A) × (o ≡ Some x))
 cases_option None = inl refl
 cases_option (Some x) = inr (x, refl)
+
+-- a run is accepted or refused
+pub run_cases : {P : Type 0} {m : Model} {n : Notes} {ps : Span} {rows : List Row} {answer : Result (ℕ × ℕ) Refusal} {after : Model} {notes : Notes} → RunStep m n ps rows answer after notes → (run_refusal m n ps rows ≡ None → RunAccepted m ps rows answer after → P) → ((r : Refusal) → run_refusal m n ps rows ≡ Some r → RunRefused m n r answer after notes → P) → P
+run_cases {m = m} {n = n} {ps = ps} {rows = rows} s accepted refused =
+    ⊎_elim (λ e. accepted e (s.accepted e)) (λ e. refused e.0 e.1 (s.refused e.0 e.1)) (cases_option (run_refusal m n ps rows))
+
+-- so is a gift
+pub give_cases : {P : Type 0} {m : Model} {i : IdentifierId} {answer : Result (Unit {0}) Refusal} {after : Model} → GiveStep m i answer after → (give_refusal m i ≡ None → answer ≡ Ok tt → after ≡ tagged m i.0 1 → P) → ((r : Refusal) → answer ≡ Err r → after ≡ m → P) → P
+give_cases {m = m} {i = i} s accepted refused =
+    let leaves = λ (o : Option Refusal). unless o m (tagged m i.0 1) in
+    ⊎_elim
+    (λ e. accepted e (s.answers ∙ ap (λ o. answered o tt) e) (s.leaves ∙ ap leaves e))
+    (λ e. refused e.0 (s.answers ∙ ap (λ o. answered o tt) e.1) (s.leaves ∙ ap leaves e.1))
+    (cases_option (give_refusal m i))
 
 -- a moment that leaves the environment, and is neither an accepted gift nor an accepted run
 quiet : (i : ℕ) (m : Moment) → m.after.env ≡ m.before.env → (Gives i m → ⊥) → (Journals i m → ⊥) → Fate i m
 quiet i m e g j = stays (ap (λ (x : Model). tag_of x i) e) g j
 
 -- the journal after a call is what it was, and then the rows that the call added
-pub Extends : Moment → Type 0
+abbrev pub Extends : Moment → Type 0
 Extends m = journal_of m.after.env ≡ journal_of m.before.env ++ added m
 
 short_journal : (m : Model) → length (journal_of m) ≤ m.count
@@ -74,6 +89,16 @@ give_none m i e =
     let b = refused_none (absent m i) refusals.Absent _ a.1 in
     (leb-false _ _ b.0, eqb-true _ _ (else_none (eqb (tag_of m i.0) 0) refusals.Named b.1))
 
+-- an accepted run is over a tree that is there
+tree_ran : (m : Moment) (t : ℕ) (ps : Span) (place count : ℕ) → m.answer ≡ Ok (Ran place count) → TreeFollows m.before t ps m.answer m.after → RunFollows m.before t ps m.answer m.after
+tree_ran m t ps place count said (there h f) = f
+tree_ran m t ps place count said (nowhere h e same) = cc
+
+pub ran_follows : (text : Text) (m : Moment) (t : ℕ) (ps : Span) (place count : ℕ) → m.request ≡ Run t ps → m.answer ≡ Ok (Ran place count) → Follows text m.before m.request m.answer m.after → RunFollows m.before t ps m.answer m.after
+ran_follows text m t ps place count asked said f =
+    let P : Request → Type 0 = λ q. Follows text m.before q m.answer m.after in
+    tree_ran m t ps place count said (subst P asked f)
+
 -- a run over a tree that is there
 module _ (m : Moment) (t : ℕ) (ps : Span) (asked : m.request ≡ Run t ps) (f : RunFollows m.before t ps m.answer m.after) where
   no_gift : (i : ℕ) → Gives i m → ⊥
@@ -106,44 +131,22 @@ module _ (m : Moment) (t : ℕ) (ps : Span) (asked : m.request ≡ Run t ps) (f 
         (cases_Bool (names i rows))
 
     accepted_journal : Extends m
-    unfolding Extends
     accepted_journal = a.names_them.journal ∙ ap (λ xs. journal_of m.before.env ++ xs) (sym is_added)
-
-  module _ (r : Refusal) (no : f.answer ≡ Err r) (same : m.after.env ≡ m.before.env) where
-    refused_fate : (i : ℕ) → Fate i m
-    refused_fate i = quiet i m same (no_gift i) (λ j. cc (sym j.accepted ∙ f.told ∙ ap ran_as no))
 
   -- an accepted run adds exactly those rows
   pub run_covered : (place count : ℕ) → m.answer ≡ Ok (Ran place count) → added m ≡ reasons.journal m.before.env ps (tree_at m.before t).rows
-  run_covered place count said =
-      ⊎_elim
-      (λ e. is_added (f.step.accepted e))
-      (λ e. cc (sym said ∙ f.told ∙ ap ran_as (f.step.refused e.0 e.1).answers))
-      (cases_option (run_refusal m.before.env m.before.notes ps (tree_at m.before t).rows))
+  run_covered place count said = run_cases f.step (λ e a. is_added a) (λ r e no. cc (sym said ∙ f.told ∙ ap ran_as no.answers))
 
   pub run_fate : (i : ℕ) → Fate i m
-  run_fate i =
-      ⊎_elim
-      (λ e. accepted_fate (f.step.accepted e) i)
-      (λ e. let r = f.step.refused e.0 e.1 in refused_fate e.0 r.answers r.env i)
-      (cases_option (run_refusal m.before.env m.before.notes ps (tree_at m.before t).rows))
+  run_fate i = run_cases f.step (λ e a. accepted_fate a i) (λ r e no. quiet i m no.env (no_gift i) (λ j. cc (sym j.accepted ∙ f.told ∙ ap ran_as no.answers)))
 
   pub run_journal : Extends m
-  unfolding Extends
-  run_journal =
-      ⊎_elim
-      (λ e. accepted_journal (f.step.accepted e))
-      (λ e. same_journal m.before.env m.after.env (ap journal_of (f.step.refused e.0 e.1).env))
-      (cases_option (run_refusal m.before.env m.before.notes ps (tree_at m.before t).rows))
+  run_journal = run_cases f.step (λ e a. accepted_journal a) (λ r e no. same_journal m.before.env m.after.env (ap journal_of no.env))
 
 module _ (m : Moment) (id : IdentifierId) (asked : m.request ≡ Give id) (f : GiveFollows m.before id m.answer m.after) where
-  give_fate : (i : ℕ) → Fate i m
-  give_fate i =
-      ⊎_elim
-      (λ e.
+  accepted_gift : give_refusal m.before.env id ≡ None → m.answer ≡ Ok Given → m.after.env ≡ tagged m.before.env id.0 1 → (i : ℕ) → Fate i m
+  accepted_gift e said after i =
       let h = give_none m.before.env id e in
-      let after : m.after.env ≡ tagged m.before.env id.0 1 = f.step.leaves ∙ ap (λ o. unless o m.before.env (tagged m.before.env id.0 1)) e in
-      let said : m.answer ≡ Ok Given = f.told ∙ ap given_as (f.step.answers ∙ ap (λ o. answered o tt) e) in
       ⊎_elim
       (λ same. given
       (ap (tag_of m.before.env) same ∙ h.1)
@@ -152,69 +155,42 @@ module _ (m : Moment) (id : IdentifierId) (asked : m.request ≡ Give id) (f : G
       (λ j. cc))
       (λ other. stays
       (ap (λ (x : Model). tag_of x i) after ∙ ap (λ (x : Identifier). x.tag) (get_or-set_other m.before.env.identifiers id.0 i _ no_identifier other))
-      (λ g. other (let k : Give id ≡ Give (ident i) = sym asked ∙ g.0 in let q : id ≡ ident i = cc in sym (ap (λ (x : IdentifierId). x.0) q)))
+      (λ g. other (let q : id ≡ ident i = cc in sym (ap (λ (x : IdentifierId). x.0) q)))
       (λ j. cc))
-      (cases_eq i id.0))
-      (λ e.
-      let after : m.after.env ≡ m.before.env = f.step.leaves ∙ ap (λ o. unless o m.before.env (tagged m.before.env id.0 1)) e.1 in
-      let said : m.answer ≡ Err (Refused e.0) = f.told ∙ ap given_as (f.step.answers ∙ ap (λ o. answered o tt) e.1) in
-      quiet i m after
-      (λ g. cc)
-      (λ j. cc))
-      (cases_option (give_refusal m.before.env id))
+      (cases_eq i id.0)
+
+  give_fate : (i : ℕ) → Fate i m
+  give_fate i =
+      give_cases f.step
+      (λ e said after. accepted_gift e (f.told ∙ ap given_as said) after i)
+      (λ r no after. quiet i m after (λ g. cc (sym g.1 ∙ f.told ∙ ap given_as no)) (λ j. cc))
 
   give_journal : Extends m
-  unfolding Extends
-  give_journal =
-      same_journal m.before.env m.after.env
-      (⊎_elim
-      (λ e. ap journal_of (f.step.leaves ∙ ap (λ o. unless o m.before.env (tagged m.before.env id.0 1)) e))
-      (λ e. ap journal_of (f.step.leaves ∙ ap (λ o. unless o m.before.env (tagged m.before.env id.0 1)) e.1))
-      (cases_option (give_refusal m.before.env id)))
+  give_journal = same_journal m.before.env m.after.env (give_cases f.step (λ e said after. ap journal_of after) (λ r no after. ap journal_of after))
 
--- a look or a spelling, which leaves the environment
-module _ (m : Moment) (same : m.after.env ≡ m.before.env) where
-  look_fate : (i : ℕ) → (id : IdentifierId) → m.request ≡ Look id → Fate i m
-  look_fate i id asked = quiet i m same
-      (λ g. cc)
-      (λ j. cc)
-
-  spell_fate : (i : ℕ) → (id : IdentifierId) → m.request ≡ Spell id → Fate i m
-  spell_fate i id asked = quiet i m same
-      (λ g. cc)
-      (λ j. cc)
-
-  quiet_journal : Extends m
-  unfolding Extends
-  quiet_journal = same_journal m.before.env m.after.env (ap journal_of same)
-
-  nowhere_fate : (i t : ℕ) (ps : Span) → m.request ≡ Run t ps → m.answer ≡ Err NoTree → Fate i m
-  nowhere_fate i t ps asked no-tree = quiet i m same
-      (λ g. cc)
-      (λ j. cc)
+quiet_journal : (m : Moment) → m.after.env ≡ m.before.env → Extends m
+quiet_journal m same = same_journal m.before.env m.after.env (ap journal_of same)
 
 -- what a call that follows does
 pub record Done (m : Moment) : Type 0 where
   pub fate : (i : ℕ) → Fate i m
-  pub journal : journal_of m.after.env ≡ journal_of m.before.env ++ added m
+  pub journal : Extends m
 
 done_tree : (m : Moment) (t : ℕ) (ps : Span) → m.request ≡ Run t ps → TreeFollows m.before t ps m.answer m.after → Done m
-unfolding Extends
 done_tree m t ps asked (there h f) = record { fate = run_fate m t ps asked f; journal = run_journal m t ps asked f }
 done_tree m t ps asked (nowhere h a e) =
     let same = ap (λ (w : World). w.env) e in
-    record { fate = λ i. nowhere_fate m same i t ps asked a; journal = quiet_journal m same }
+    record { fate = λ i. quiet i m same (λ g. cc) (λ j. cc); journal = quiet_journal m same }
 
 done_by : (text : Text) (m : Moment) (q : Request) → m.request ≡ q → Follows text m.before q m.answer m.after → Done m
-unfolding Extends
 done_by text m (Run t ps) asked f = done_tree m t ps asked f
 done_by text m (Give id) asked f = record { fate = give_fate m id asked f; journal = give_journal m id asked f }
 done_by text m (Look id) asked f =
     let same = ap (λ (w : World). w.env) f.rest in
-    record { fate = λ i. look_fate m same i id asked; journal = quiet_journal m same }
+    record { fate = λ i. quiet i m same (λ g. cc) (λ j. cc); journal = quiet_journal m same }
 done_by text m (Spell id) asked f =
     let same = ap (λ (w : World). w.env) f.rest in
-    record { fate = λ i. spell_fate m same i id asked; journal = quiet_journal m same }
+    record { fate = λ i. quiet i m same (λ g. cc) (λ j. cc); journal = quiet_journal m same }
 
 pub done_call : (text : Text) (m : Moment) → Follows text m.before m.request m.answer m.after → Done m
 done_call text m f = done_by text m m.request refl f

@@ -2,20 +2,19 @@
 use Rattle.std.proofs.Common.{◌≡◌, ℕ, true, not, ◌⊎◌, List, [], ◌∷◌, ◌++◌, Some, None, Ok, Option, sym, refl, ap, ◌∙◌, subst, inl, inr, ⊎_elim, append_assoc, append-nil, arith}
 use Rattle.std.proofs.lemmas.Bool.{eq-eqb, ne_eqb}
 use Rattle.hir.specs.declared.refusal.Refusal.{Refusal}
-use Rattle.hir.specs.declared.span.Span.{Span}
 use Rattle.hir.specs.Environments.{tag_of, journal_of}
 use Rattle.hir.specs.Refusals.{answered}
 use Rattle.hir.specs.Spans.{ident}
 use Rattle.calls.specs.declared.requests.Request.{Request}
 use Rattle.calls.specs.declared.requests.Request.TheVariants.{Run, Give, Look, Spell}
-use Rattle.calls.specs.declared.requests.Reply.TheVariants.{Ran, Tag}
+use Rattle.calls.specs.declared.requests.Reply.TheVariants.{Tag}
 use Rattle.calls.specs.Steps.{Text, look_refusal}
-use Rattle.calls.specs.Histories.{World, Moment, tree_at, looked_as, TreeFollows, there, nowhere, Follows, History, start, next, Somewhere}
+use Rattle.calls.specs.Histories.{World, Moment, tree_at, looked_as, Follows, History, start, next, Somewhere}
 use Rattle.calls.specs.Promise.{is_named, Gives, added, Journals, JournalsAs, TagFollows, by_gift, by_run, by_start, Alike, all_added, Promise}
 use Rattle.naming.specs.Texts.{Lawful}
 use Rattle.reasons.specs.Coverings as reasons
 use Rattle.calls.proofs.Naming.{Promoted, promoted_some}
-use Rattle.calls.proofs.Fates.{Fate, stays, given, named, done_call, run_covered}
+use Rattle.calls.proofs.Fates.{Fate, stays, given, named, done_call, ran_follows, run_covered}
 use Rattle.calls.proofs.Spellings.{declares_on, call_letter, alike_by}
 
 -- what a list of calls does to an identifier
@@ -25,21 +24,22 @@ data Tale (i : ℕ) (w : World) (ms : List Moment) (u : World) : Type 0 where
   ran : tag_of w.env i ≡ 0 → Promoted (tag_of u.env i) → Somewhere (JournalsAs i (tag_of u.env i)) ms → (Somewhere (Gives i) ms → ⊥) → Tale i w ms u
 
 -- one call, and then the others
-joined : (i : ℕ) (w u : World) (m : Moment) (ms : List Moment) → m.before ≡ w → Fate i m → Tale i m.after ms u → Tale i w (m ∷ ms) u
-joined i w u m ms e (stays s g j) (stood t h k) = stood (t ∙ s ∙ ap (λ (x : World). tag_of x.env i) e) (⊎_elim g h) (⊎_elim j k)
-joined i w u m ms e (stays s g j) (gifted z o h k) = gifted (sym (ap (λ (x : World). tag_of x.env i) e) ∙ sym s ∙ z) o (inr h) (⊎_elim j k)
-joined i w u m ms e (stays s g j) (ran z o h k) = ran (sym (ap (λ (x : World). tag_of x.env i) e) ∙ sym s ∙ z) o (inr h) (⊎_elim g k)
-joined i w u m ms e (given z o g j) (stood t h k) = gifted (sym (ap (λ (x : World). tag_of x.env i) e) ∙ z) (t ∙ o) (inl g) (⊎_elim j k)
-joined i w u m ms e (given z o g j) (gifted y p h k) = absurd (omega (arith, o, y))
-joined i w u m ms e (given z o g j) (ran y p h k) = absurd (omega (arith, o, y))
-joined i w u m ms e (named z o j g) (stood t h k) =
-    ran (sym (ap (λ (x : World). tag_of x.env i) e) ∙ z) (subst Promoted (sym t) o) (inl (j, sym t)) (⊎_elim g h)
-joined i w u m ms e (named z o j g) (gifted y p h k) = absurd (promoted_some _ o y)
-joined i w u m ms e (named z o j g) (ran y p h k) = absurd (promoted_some _ o y)
+joined : (i : ℕ) (u : World) (m : Moment) (ms : List Moment) → Fate i m → Tale i m.after ms u → Tale i m.before (m ∷ ms) u
+joined i u m ms (stays s g j) (stood t h k) = stood (t ∙ s) (⊎_elim g h) (⊎_elim j k)
+joined i u m ms (stays s g j) (gifted z o h k) = gifted (sym s ∙ z) o (inr h) (⊎_elim j k)
+joined i u m ms (stays s g j) (ran z o h k) = ran (sym s ∙ z) o (inr h) (⊎_elim g k)
+joined i u m ms (given z o g j) (stood t h k) = gifted z (t ∙ o) (inl g) (⊎_elim j k)
+joined i u m ms (given z o g j) (gifted y p h k) = absurd (omega (arith, o, y))
+joined i u m ms (given z o g j) (ran y p h k) = absurd (omega (arith, o, y))
+joined i u m ms (named z o j g) (stood t h k) = ran z (subst Promoted (sym t) o) (inl (j, sym t)) (⊎_elim g h)
+joined i u m ms (named z o j g) (gifted y p h k) = absurd (promoted_some _ o y)
+joined i u m ms (named z o j g) (ran y p h k) = absurd (promoted_some _ o y)
 
 tale : (text : Text) (i : ℕ) (w u : World) (ms : List Moment) → History text w ms u → Tale i w ms u
 tale text i w u [] start = stood refl (λ x. x) (λ x. x)
-tale text i w u (x ∷ ms) (next m e f h) = joined i w u m ms e ((done_call text m f).fate i) (tale text i m.after u ms h)
+tale text i w u (x ∷ ms) (next m e f h) =
+    let P : World → Type 0 = λ x. Tale i x (m ∷ ms) u in
+    subst P e (joined i u m ms ((done_call text m f).fate i) (tale text i m.after u ms h))
 
 is_named_by_tag : (w : World) (i : ℕ) → (tag_of w.env i ≡ 0 → ⊥) → is_named w i ≡ true
 is_named_by_tag w i ne = ap not (ne_eqb (tag_of w.env i) 0 ne)
@@ -126,16 +126,6 @@ looked text m i t (Look a) e is said f =
     ∙ ap (λ x. tag_of m.before.env x.0) same
 looked text m i t (Spell a) e is said f = cc
 
--- an accepted run journals what its rows cover
-tree_covered : (m : Moment) (t : ℕ) (ps : Span) (place count : ℕ) → m.request ≡ Run t ps → m.answer ≡ Ok (Ran place count) → TreeFollows m.before t ps m.answer m.after → added m ≡ reasons.journal m.before.env ps (tree_at m.before t).rows
-tree_covered m t ps place count asked said (there h f) = run_covered m t ps asked f place count said
-tree_covered m t ps place count asked said (nowhere h e same) = cc
-
-covered_here : (text : Text) (m : Moment) (t : ℕ) (ps : Span) (place count : ℕ) → m.request ≡ Run t ps → m.answer ≡ Ok (Ran place count) → Follows text m.before m.request m.answer m.after → added m ≡ reasons.journal m.before.env ps (tree_at m.before t).rows
-covered_here text m t ps place count asked said f =
-    let P : Request → Type 0 = λ q. Follows text m.before q m.answer m.after in
-    tree_covered m t ps place count asked said (subst P asked f)
-
 after_here : (text : Text) (w u : World) (m : Moment) (rest : List Moment) → History text w (m ∷ rest) u → History text m.after rest u
 after_here text w u x rest (next m e f h) = h
 
@@ -182,7 +172,7 @@ promise text w ms u h =
           let c = cut_at text w u ms before m rest e h in
           tale_start i m.before u (m ∷ rest) (tale text i m.before u (m ∷ rest) c.later) n;
       journal = all_journal text w u ms h;
-      covered = λ before rest m k ps place count e asked said. covered_here text m k ps place count asked said (cut_at text w u ms before m rest e h).follows;
+      covered = λ before rest m k ps place count e asked said. run_covered m k ps asked (ran_follows text m k ps place count asked said (cut_at text w u ms before m rest e h).follows) place count said;
       alike = λ before rest m i j e a b naming law. let c = cut_at text w u ms before m rest e h in alike_later text u m rest i j c.follows c.later a b naming law;
       tags = λ i. tag_follows i w u ms (t i);
       looks = λ before rest m i x e asked said.

@@ -1,28 +1,26 @@
 -- How the names of one run are spelled. Assumes nothing.
-use Rattle.std.proofs.Common.{◌≡◌, ℕ, zero, suc, ◌<◌, Bool, true, false, cond, eqb, List, [], ◌∷◌, length, get_or, set, sym, refl, ap, ◌∙◌, subst, ⊎_elim, arith, length-set, get_or-set_other, get_or-set_same}
+use Rattle.std.proofs.Common.{◌≡◌, ℕ, zero, suc, ◌<◌, Bool, true, false, cond, eqb, List, [], ◌∷◌, length, get_or, set, sym, refl, ap, ◌∙◌, ⊎_elim, arith, length-set, get_or-set_other, get_or-set_same}
 use Rattle.std.proofs.lemmas.Bool.{cases_Bool, or_parts, or_cases, eqb-true, eqb-false}
 use Rattle.hir.specs.declared.ids.DeclarationId.{DeclarationId}
 use Rattle.hir.specs.declared.ids.IdentifierId.{IdentifierId}
 use Rattle.hir.specs.declared.span.Span.{Span}
 use Rattle.hir.specs.declared.tables.Identifier.{Identifier}
 use Rattle.hir.specs.declared.tables.JournalRow.{JournalRow}
-use Rattle.hir.specs.Environments.{Model, no_identifier, tag_of, declaration_of, tagged, with_tag}
-use Rattle.hir.specs.Refusals.{unless}
+use Rattle.hir.specs.Environments.{Model, no_identifier, tag_of, declaration_of, with_tag}
 use Rattle.hir.specs.Sound.{Known}
 use Rattle.hir.specs.Spans.{ident}
 use Rattle.naming.specs.Texts.{Lawful}
-use Rattle.checks.specs.Rows.{run_refusal}
 use Rattle.checks.proofs.Sound as checked
 use Rattle.reasons.specs.Coverings as reasons
 use Rattle.reasons.specs.Journals.{names, name_one, name_all}
 use Rattle.calls.specs.declared.requests.Request.{Request}
 use Rattle.calls.specs.declared.requests.Request.TheVariants.{Run, Give, Look, Spell}
-use Rattle.calls.specs.Steps.{Text, letter_of, give_refusal}
-use Rattle.calls.specs.Histories.{Answer, World, Moment, tree_at, ran_as, RunFollows, GiveFollows, TreeFollows, there, nowhere, Follows, History, start, next}
+use Rattle.calls.specs.Steps.{Text, letter_of}
+use Rattle.calls.specs.Histories.{RequestAnswer, World, Moment, tree_at, ran_as, RunFollows, GiveFollows, TreeFollows, there, nowhere, Follows, History, start, next}
 use Rattle.calls.specs.Promise.{Journals, Alike}
 use Rattle.walk.proofs.Fitting.{each_imp}
 use Rattle.calls.proofs.Naming.{member}
-use Rattle.calls.proofs.Fates.{cases_option, added_rows}
+use Rattle.calls.proofs.Fates.{run_cases, give_cases, added_rows, ran_follows}
 
 -- setting a tag leaves every declaration
 declaration_tagged : (is : List Identifier) (k i t : ℕ) → (get_or (set is k (with_tag (get_or is k no_identifier) t)) i no_identifier).declaration ≡ (get_or is i no_identifier).declaration
@@ -59,22 +57,17 @@ tag_all up m (r ∷ js) i h e =
     (cases_Bool (names i js))
 
 -- no call changes a declaration
-tree_declares : (w : World) (t : ℕ) (ps : Span) (a : Answer) (v : World) → TreeFollows w t ps a v → (i : ℕ) → declaration_of v.env i ≡ declaration_of w.env i
-tree_declares w t ps a v (there h f) i =
-    ⊎_elim
-    (λ e. (f.step.accepted e).names_them.declarations i)
-    (λ e. ap (λ (x : Model). declaration_of x i) (f.step.refused e.0 e.1).env)
-    (cases_option (run_refusal w.env w.notes ps (tree_at w t).rows))
+tree_declares : (w : World) (t : ℕ) (ps : Span) (a : RequestAnswer) (v : World) → TreeFollows w t ps a v → (i : ℕ) → declaration_of v.env i ≡ declaration_of w.env i
+tree_declares w t ps a v (there h f) i = run_cases f.step (λ e ran. ran.names_them.declarations i) (λ r e no. ap (λ (x : Model). declaration_of x i) no.env)
 tree_declares w t ps a v (nowhere h e same) i = ap (λ (x : World). declaration_of x.env i) same
 
-give_declares : (w : World) (id : IdentifierId) (a : Answer) (v : World) → GiveFollows w id a v → (i : ℕ) → declaration_of v.env i ≡ declaration_of w.env i
+give_declares : (w : World) (id : IdentifierId) (a : RequestAnswer) (v : World) → GiveFollows w id a v → (i : ℕ) → declaration_of v.env i ≡ declaration_of w.env i
 give_declares w id a v f i =
-    ⊎_elim
-    (λ e. ap (λ (x : Model). declaration_of x i) (f.step.leaves ∙ ap (λ o. unless o w.env (tagged w.env id.0 1)) e) ∙ ap (λ (d : DeclarationId). d.0) (declaration_tagged w.env.identifiers id.0 i 1))
-    (λ e. ap (λ (x : Model). declaration_of x i) (f.step.leaves ∙ ap (λ o. unless o w.env (tagged w.env id.0 1)) e.1))
-    (cases_option (give_refusal w.env id))
+    give_cases f.step
+    (λ e said after. ap (λ (x : Model). declaration_of x i) after ∙ ap (λ (d : DeclarationId). d.0) (declaration_tagged w.env.identifiers id.0 i 1))
+    (λ r no after. ap (λ (x : Model). declaration_of x i) after)
 
-call_declares : (text : Text) (w : World) (q : Request) (a : Answer) (v : World) → Follows text w q a v → (i : ℕ) → declaration_of v.env i ≡ declaration_of w.env i
+call_declares : (text : Text) (w : World) (q : Request) (a : RequestAnswer) (v : World) → Follows text w q a v → (i : ℕ) → declaration_of v.env i ≡ declaration_of w.env i
 call_declares text w (Run t ps) a v f i = tree_declares w t ps a v f i
 call_declares text w (Give id) a v f i = give_declares w id a v f i
 call_declares text w (Look id) a v f i = ap (λ (x : World). declaration_of x.env i) f.rest
@@ -93,9 +86,8 @@ pub record Lettered (m : Moment) (up : ℕ → Bool) (i : ℕ) : Type 0 where
 module _ (m : Moment) (t : ℕ) (ps : Span) (i : ℕ) (j : Journals i m) where
   run_letter : RunFollows m.before t ps m.answer m.after → Lettered m (reasons.upper m.before.env (tree_at m.before t).rows) i
   run_letter f =
-      ⊎_elim
-      (λ e.
-      let a = f.step.accepted e in
+      run_cases f.step
+      (λ e a.
       let rows = reasons.journal m.before.env ps (tree_at m.before t).rows in
       let is : names i rows ≡ true = ap (names i) (sym (added_rows m.before.env m.after.env rows a.names_them)) ∙ j.journalled in
       let known : i < length m.before.env.identifiers = member (λ k. k < length m.before.env.identifiers) rows i (each_imp _ _ (λ r h. h.0) rows a.names_them.unnamed) is in
@@ -104,15 +96,10 @@ module _ (m : Moment) (t : ℕ) (ps : Span) (i : ℕ) (j : Journals i m) where
         tag = ap (λ (x : Model). tag_of x i) a.env ∙ tag_all (reasons.upper m.before.env (tree_at m.before t).rows) m.before.env rows i known is;
         low = omega (arith, s.declared i known, s.identifiers);
       })
-      (λ e. cc (sym j.accepted ∙ f.told ∙ ap ran_as (f.step.refused e.0 e.1).answers))
-      (cases_option (run_refusal m.before.env m.before.notes ps (tree_at m.before t).rows))
-
-  tree_letter : TreeFollows m.before t ps m.answer m.after → Lettered m (reasons.upper m.before.env (tree_at m.before t).rows) i
-  tree_letter (there h f) = run_letter f
-  tree_letter (nowhere h e same) = cc
+      (λ r e no. cc (sym j.accepted ∙ f.told ∙ ap ran_as no.answers))
 
   pub call_letter : (text : Text) → m.request ≡ Run t ps → Follows text m.before m.request m.answer m.after → Lettered m (reasons.upper m.before.env (tree_at m.before t).rows) i
-  call_letter text asked f = let P : Request → Type 0 = λ q. Follows text m.before q m.answer m.after in tree_letter (subst P asked f)
+  call_letter text asked f = run_letter (ran_follows text m t ps j.place j.count asked j.accepted f)
 
 -- names with such tags spell alike exactly when their declarations are equal
 pub alike_by : (naming : Text) → Lawful naming → (m : Moment) (up : ℕ → Bool) (u : World) (i j : ℕ) → Lettered m up i → Lettered m up j → ((k : ℕ) → declaration_of u.env k ≡ declaration_of m.before.env k) → tag_of u.env i ≡ tag_of m.after.env i → tag_of u.env j ≡ tag_of m.after.env j → Alike naming u.env i j

@@ -15,8 +15,8 @@ use Rattle.calls.specs.declared.requests.RequestError.TheVariants.{Refused, NoTr
 use Rattle.calls.specs.Steps.{Text, GiveStep, LookStep, SpellStep, RunStep}
 
 -- what a request got
-abbrev pub Answer : Type 0
-Answer = Result Reply RequestError
+abbrev pub RequestAnswer : Type 0
+RequestAnswer = Result Reply RequestError
 
 -- all that a list of calls can alter: the environment, scratch, the trees' sources, the text buffer
 pub record World : Type 0 where
@@ -32,63 +32,63 @@ world m n ts b = record { env = m; notes = n; trees = ts; text = b }
 pub record Moment : Type 0 where
   pub before : World
   pub request : Request
-  pub answer : Answer
+  pub answer : RequestAnswer
   pub after : World
 
 abbrev pub tree_at : World → ℕ → Reading
 tree_at w t = slice_index_or w.trees t (at_place [] 0)
 
 -- the answer of a call, as the answer of a request
-abbrev pub told_as : {X : Type 0} → (X → Reply) → Result X Refusal → Answer
+abbrev pub told_as : {X : Type 0} → (X → Reply) → Result X Refusal → RequestAnswer
 told_as reply (Ok x) = Ok (reply x)
 told_as reply (Err r) = Err (Refused r)
 
 -- the answers of the four calls, as answers of requests
-abbrev pub ran_as : Result (ℕ × ℕ) Refusal → Answer
+abbrev pub ran_as : Result (ℕ × ℕ) Refusal → RequestAnswer
 ran_as = told_as (λ p. Ran p.0 p.1)
 
-abbrev pub given_as : Result (Unit {0}) Refusal → Answer
+abbrev pub given_as : Result (Unit {0}) Refusal → RequestAnswer
 given_as = told_as (λ u. Given)
 
-abbrev pub looked_as : Result ℕ Refusal → Answer
+abbrev pub looked_as : Result ℕ Refusal → RequestAnswer
 looked_as = told_as Tag
 
-abbrev pub spelled_as : Result ℕ Refusal → Answer
+abbrev pub spelled_as : Result ℕ Refusal → RequestAnswer
 spelled_as = told_as Length
 
 -- a run over a tree that is there: that tree's source is rewound, in every case
-pub record RunFollows (w : World) (t : ℕ) (ps : Span) (a : Answer) (v : World) : Type 0 where
+pub record RunFollows (w : World) (t : ℕ) (ps : Span) (a : RequestAnswer) (v : World) : Type 0 where
   pub answer : Result (ℕ × ℕ) Refusal
   pub told : a ≡ ran_as answer
   pub step : RunStep w.env w.notes ps (tree_at w t).rows answer v.env v.notes
   pub trees : v.trees ≡ slice_set w.trees t (rewound (tree_at w t))
   pub text : v.text ≡ w.text
 
-pub record GiveFollows (w : World) (i : IdentifierId) (a : Answer) (v : World) : Type 0 where
+pub record GiveFollows (w : World) (i : IdentifierId) (a : RequestAnswer) (v : World) : Type 0 where
   pub answer : Result (Unit {0}) Refusal
   pub told : a ≡ given_as answer
   pub step : GiveStep w.env i answer v.env
   pub rest : v ≡ world v.env w.notes w.trees w.text
 
-pub record LookFollows (w : World) (i : IdentifierId) (a : Answer) (v : World) : Type 0 where
+pub record LookFollows (w : World) (i : IdentifierId) (a : RequestAnswer) (v : World) : Type 0 where
   pub answer : Result ℕ Refusal
   pub told : a ≡ looked_as answer
   pub step : LookStep w.env i answer
   pub rest : v ≡ w
 
-pub record SpellFollows (text : Text) (w : World) (i : IdentifierId) (a : Answer) (v : World) : Type 0 where
+pub record SpellFollows (text : Text) (w : World) (i : IdentifierId) (a : RequestAnswer) (v : World) : Type 0 where
   pub answer : Result ℕ Refusal
   pub told : a ≡ spelled_as answer
   pub step : SpellStep text w.env i w.text answer v.text
   pub rest : v ≡ world w.env w.notes w.trees v.text
 
 -- the tree asked for is there and the run follows, or it is not there and nothing is done
-pub data TreeFollows (w : World) (t : ℕ) (ps : Span) (a : Answer) (v : World) : Type 0 where
+pub data TreeFollows (w : World) (t : ℕ) (ps : Span) (a : RequestAnswer) (v : World) : Type 0 where
   there : t < length w.trees → RunFollows w t ps a v → TreeFollows w t ps a v
   nowhere : length w.trees ≤ t → a ≡ Err NoTree → v ≡ w → TreeFollows w t ps a v
 
 -- a call follows from the world before it, by the relation that its own contract states
-abbrev pub Follows : Text → World → Request → Answer → World → Type 0
+abbrev pub Follows : Text → World → Request → RequestAnswer → World → Type 0
 Follows text w (Run t ps) a v = TreeFollows w t ps a v
 Follows text w (Give i) a v = GiveFollows w i a v
 Follows text w (Look i) a v = LookFollows w i a v
@@ -105,7 +105,7 @@ Somewhere P [] = ⊥
 Somewhere P (m ∷ ms) = P m ⊎ Somewhere P ms
 
 -- the moments of a list of requests, with their answers
-abbrev pub Told : List Request → List Answer → List Moment → Type 0
+abbrev pub Told : List Request → List RequestAnswer → List Moment → Type 0
 Told [] answers ms = ms ≡ []
 Told (q ∷ qs) [] ms = ms ≡ []
 Told (q ∷ qs) (a ∷ answers) [] = ⊥

@@ -14,7 +14,7 @@ use Rattle.naming.specs.Texts.{Lawful}
 use Rattle.reasons.specs.Coverings as reasons
 use Rattle.reasons.specs.Journals.{names}
 use Rattle.calls.specs.Steps.{Text, promoted_name, SameSize, RunStep}
-use Rattle.calls.specs.Histories.{Answer, World, Moment, tree_at, History, Somewhere, Told}
+use Rattle.calls.specs.Histories.{RequestAnswer, World, Moment, tree_at, History, Somewhere, Told}
 
 abbrev pub is_named : World → ℕ → Bool
 is_named w i = not (tag_of w.env i == 0)
@@ -95,7 +95,7 @@ EqualRuns =
     → (answer ≡ other) × (after ≡ leaves)
 
 -- a list of requests was performed: the moments have these requests and answers, and the promise holds of them
-pub record Performed (text : Text) (w : World) (requests : List Request) (answers : List Answer) (u : World) : Type 0 where
+pub record Performed (text : Text) (w : World) (requests : List Request) (answers : List RequestAnswer) (u : World) : Type 0 where
   pub moments : List Moment
   pub told : Told requests answers moments
   pub promise : Promise text w moments u
