@@ -27,7 +27,11 @@ impl Case {
         Case {
             heap,
             state: State::new(heap),
-            tables: Tables::new(heap),
+            tables: Tables {
+                scopes: Vec::new(heap),
+                functions: Vec::new(heap),
+                pool: Vec::new(heap),
+            },
             parameters: Span { start: 0, count: 0 },
             trees: Vec::new(heap),
             requests: Vec::new(heap),

@@ -2,7 +2,7 @@
 use crate::answers::{Said, print_journal, print_tags};
 use crate::case::Case;
 use crate::fault::Fault;
-use crate::words::{first_word, identifier, two_numbers};
+use crate::words::{first_word, number, two_numbers};
 use calls::requests::{Answer, RequestError};
 use hir::ids::IdentifierId;
 use naming::decimal::Decimal;
@@ -53,6 +53,11 @@ fn show_run(rt: &HostRuntime, case: &mut Case, text: &str) -> Result<(), Fault> 
     };
     println!(rt; ", {outcome}")?;
     Ok(())
+}
+
+// The identifier that a text has the number of.
+fn identifier(text: &str) -> Result<IdentifierId, Fault> {
+    Ok(IdentifierId(number(text)?))
 }
 
 // Prints an answer on a line of its own: of `give I`, of `look I`, or of a request.

@@ -1,4 +1,8 @@
 // The tables of a case: what calls read, and what they write.
+ghost use Rattle.std.specs.Prelude.{◌≡◌};
+ghost use Rattle.hir.specs.Environments.{model};
+ghost use Rattle.hir.specs.Scratches.{noted};
+
 use hir::environment::Environment;
 use hir::ids::{DeclarationId, IdentifierId, ScopeId};
 use hir::scratch::{Scratch, Trail, Work};
@@ -19,17 +23,6 @@ pub struct Tables {
     pub scopes: Vec<Scope>,
     pub functions: Vec<Function>,
     pub pool: Vec<u32>,
-}
-
-impl Tables {
-    // No scopes, no functions, no lists.
-    pub fn new(heap: Global) -> Tables {
-        Tables {
-            scopes: Vec::new(heap),
-            functions: Vec::new(heap),
-            pool: Vec::new(heap),
-        }
-    }
 }
 
 // The tables that calls write, and the scratch.
@@ -104,7 +97,21 @@ impl State {
     }
 
     // The environment of these tables, and the scratch, lent to calls.
-    pub fn lend<'a>(&'a mut self, tables: &'a Tables) -> (Environment<'a>, Scratch<'a>) {
+    pub fn lend<'a>(&'a mut self, tables: &'a Tables) -> (Environment<'a>, Scratch<'a>)
+        ensures env { model result.0 ≡ record {
+          identifiers = self.old.identifiers.items;
+          scopes = tables.now.scopes.items;
+          functions = tables.now.functions.items;
+          pool = tables.now.pool.items;
+          journal = self.old.journal.items;
+          count = self.old.count;
+        } }
+        ensures scratch { noted result.1 ≡ record {
+          work = self.old.work.items;
+          marks = self.old.marks.items;
+          trail = self.old.trail.items;
+        } }
+    {
         let count = self.count;
         let mut env = Environment::new(
             &mut self.identifiers,

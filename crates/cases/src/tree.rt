@@ -1,4 +1,7 @@
 // Trees, read row by row.
+ghost use Rattle.std.specs.Prelude.{◌≡◌};
+ghost use Rattle.reactive.specs.Tables.{table_reading, table_source};
+
 use crate::fault::Fault;
 use crate::names::{code, kind};
 use crate::words::{first_word, list, number};
@@ -33,7 +36,9 @@ impl Tree {
     }
 
     // The rows as a source, from the first on.
-    pub fn source(&self) -> TableSource<'_> {
+    pub fn source(&self) -> TableSource<'_>
+        ensures { table_source result ≡ table_reading self.now.rows.items self.now.pool.items 0 }
+    {
         TableSource::new(&self.rows, &self.pool)
     }
 

@@ -1,6 +1,5 @@
 // The words, numbers and lists of a line.
 use crate::fault::Fault;
-use hir::ids::IdentifierId;
 use hir::span::Span;
 use std::iter::repeat_n;
 use std::num::ParseIntError;
@@ -14,11 +13,6 @@ pub fn first_word(text: &str) -> (&str, &str) {
 // The number that a text is.
 pub fn number<T: FromStr<Err = ParseIntError>>(text: &str) -> Result<T, Fault> {
     Ok(text.parse()?)
-}
-
-// The identifier that a text has the number of.
-pub fn identifier(text: &str) -> Result<IdentifierId, Fault> {
-    Ok(IdentifierId(number(text)?))
 }
 
 // The number that a text begins with, and what follows its space.
