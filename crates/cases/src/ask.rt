@@ -6,19 +6,16 @@ use calls::gifts::{give, look, spell};
 use calls::perform::perform;
 use calls::requests::{Answer, Reply, RequestError};
 use calls::run::run;
+use either::Either;
 use hir::ids::IdentifierId;
 use naming::decimal::Decimal;
 use naming::naming::Naming;
-use reactive::either::Either;
 use reactive::source::TreeSource;
 use reactive::table::TableSource;
 
 // A tree as a source of the one sort, and another as one of the other.
 fn mixed<'a>(first: &'a Tree, second: &'a Tree) -> [Either<TableSource<'a>, TableSource<'a>>; 2] {
-    [
-        Either::First(first.source()),
-        Either::Second(second.source()),
-    ]
+    [Either::Left(first.source()), Either::Right(second.source())]
 }
 
 impl Case {

@@ -57,16 +57,10 @@ impl Tree {
 
 // A row that has only a depth and a code.
 fn bare_row(depth: u32, code: u8) -> RowEntry {
-    let nothing = Span { start: 0, count: 0 };
     RowEntry {
         depth,
         code,
-        identifier: None,
-        number: None,
-        kind: 0,
-        mode: 0,
-        operands: nothing,
-        marks: nothing,
+        ..RowEntry::default()
     }
 }
 

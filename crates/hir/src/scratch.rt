@@ -4,7 +4,7 @@ ghost use Rattle.hir.specs.Scratches.{noted, blank};
 use crate::ids::ScopeId;
 
 // What a run notes of an identifier (constant, global, tracked) and of a declaration (the rest).
-#[derive(Clone, Copy, PartialEq)]
+#[derive(Clone, Copy, Default, PartialEq)]
 pub struct Work {
     // the declaration is that of a JSX tag
     pub tag: bool,
@@ -40,15 +40,7 @@ impl<'a> Scratch<'a> {
     pub fn reset(&mut self)
         ensures { noted self.new ≡ blank (noted self.old) }
     {
-        self.work.fill(Work {
-            tag: false,
-            promoted: false,
-            recorded: 0,
-            escaped: false,
-            constant: false,
-            global: false,
-            tracked: 0,
-        });
+        self.work.fill(Work::default());
         self.marks.fill(false);
     }
 }

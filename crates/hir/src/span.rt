@@ -5,7 +5,7 @@ ghost use Rattle.hir.specs.Spans.{part};
 pub const LONGEST_LIST: u32 = 4096;
 
 // A list: a part of a pool of numbers.
-#[derive(Clone, Copy, PartialEq)]
+#[derive(Clone, Copy, Default, PartialEq)]
 pub struct Span {
     pub start: u32,
     pub count: u32,

@@ -1,5 +1,5 @@
 // What is printed of a panel, by functions and no Display: the words are the panel's own, and the cases have others for the same values.
-use crate::words::{code_name, kind_name, reason_words, refusal_words};
+use crate::words::{reason_words, refusal_words};
 use calls::gifts::spell;
 use calls::requests::{Answer, Reply, Request, RequestError};
 use hir::environment::Environment;
@@ -7,9 +7,23 @@ use hir::ids::IdentifierId;
 use hir::tables::JournalRow;
 use naming::decimal::Decimal;
 use reactive::code::Code;
+use reactive::given::GivenRow;
+use reactive::kind::Kind;
 use reactive::row::{Number, RowHead};
 use reactive::source::TreeSource;
-use std::io;
+use reactive::unknown::Unknown;
+use std::{fmt, io};
+
+// Prints the case that a byte stands for, or `?`.
+fn print_case<T: TryFrom<u8, Error = Unknown> + fmt::Debug + Drop>(
+    rt: &HostRuntime,
+    byte: u8,
+) -> io::Result<()> {
+    match T::try_from(byte) {
+        Ok(case) => print!(rt; "{case:?}"),
+        Err(_) => print!(rt; "?"),
+    }
+}
 
 // Prints what a row has besides its code: identifier, scope or function, kind.
 fn print_fields(rt: &HostRuntime, row: &RowHead) -> io::Result<()> {
@@ -22,7 +36,8 @@ fn print_fields(rt: &HostRuntime, row: &RowHead) -> io::Result<()> {
         None => {}
     }
     if row.is(Code::Leaf) {
-        print!(rt; " {}", kind_name(row.kind))?;
+        print!(rt; " ")?;
+        print_case::<Kind>(rt, row.kind)?;
     }
     Ok(())
 }
@@ -40,7 +55,7 @@ fn print_row<S: TreeSource>(rt: &HostRuntime, row: &RowHead, source: &S) -> io::
     for _ in 0..row.depth {
         print!(rt; "  ")?;
     }
-    print!(rt; "{}", code_name(row.code))?;
+    print_case::<Code>(rt, row.code)?;
     print_fields(rt, row)?;
     print_operands(rt, row, source)?;
     println!(rt; "")

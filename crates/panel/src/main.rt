@@ -17,16 +17,6 @@ use reactive::table::TableSource;
 use std::io;
 use tables::{IDENTIFIERS, POOL, ROWS};
 
-const NOTHING: Work = Work {
-    tag: false,
-    promoted: false,
-    recorded: 0,
-    escaped: false,
-    constant: false,
-    global: false,
-    tracked: 0,
-};
-
 // The calls that are made: a run, a look and a spelling, a gift, a gift that is refused, and the run again.
 fn requests() -> [Request; 6] {
     [
@@ -45,7 +35,7 @@ fn name_panel(
     env: &mut Environment,
     trees: &mut [TableSource],
 ) -> io::Result<()> {
-    let mut work = [NOTHING; IDENTIFIERS];
+    let mut work = [Work::default(); IDENTIFIERS];
     let mut marks = [false; 0];
     let mut trail = [Trail {
         scope: ScopeId(0),

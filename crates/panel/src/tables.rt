@@ -10,6 +10,7 @@ use hir::ids::{DeclarationId, IdentifierId, ScopeId};
 use hir::span::Span;
 use hir::tables::{Identifier, Scope};
 use reactive::code::Code;
+use reactive::kind::Kind;
 use reactive::row::Number;
 use reactive::table::RowEntry;
 use std::array;
@@ -58,17 +59,14 @@ fn row(depth: u32, code: Code, identifier: Option<u32>, number: Option<Number>) 
         code: code as u8,
         identifier: identifier.map(IdentifierId),
         number,
-        kind: 0,
-        mode: 0,
-        operands: EMPTY,
-        marks: EMPTY,
+        ..RowEntry::default()
     }
 }
 
 // A Leaf.
-fn leaf(depth: u32, kind: u8, operands: Span, marks: Span) -> RowEntry {
+fn leaf(depth: u32, kind: Kind, operands: Span, marks: Span) -> RowEntry {
     RowEntry {
-        kind,
+        kind: kind as u8,
         operands,
         marks,
         ..row(depth, Code::Leaf, None, None)
@@ -80,23 +78,23 @@ pub fn rows() -> [RowEntry; ROWS] {
     [
         row(0, Code::Block, None, None),
         row(1, Code::Instruction, Some(1), None),
-        leaf(2, 0, span(0, 1), span(0, 1)),
+        leaf(2, Kind::LoadLocal, span(0, 1), span(0, 1)),
         row(1, Code::Instruction, Some(2), None),
-        leaf(2, 23, span(2, 1), span(2, 1)),
+        leaf(2, Kind::PropertyLoad, span(2, 1), span(2, 1)),
         row(1, Code::Instruction, Some(3), None),
-        leaf(2, 23, span(2, 1), span(2, 1)),
+        leaf(2, Kind::PropertyLoad, span(2, 1), span(2, 1)),
         row(1, Code::Instruction, Some(4), None),
-        leaf(2, 28, EMPTY, EMPTY),
+        leaf(2, Kind::LoadGlobal, EMPTY, EMPTY),
         row(1, Code::Instruction, Some(5), None),
-        leaf(2, 23, span(3, 1), span(3, 1)),
+        leaf(2, Kind::PropertyLoad, span(3, 1), span(3, 1)),
         row(1, Code::Instruction, Some(6), None),
-        leaf(2, 0, span(0, 1), span(0, 1)),
+        leaf(2, Kind::LoadLocal, span(0, 1), span(0, 1)),
         row(1, Code::Instruction, None, None),
-        leaf(2, 12, span(3, 3), span(4, 1)),
+        leaf(2, Kind::MethodCall, span(3, 3), span(4, 1)),
         row(1, Code::Scope, None, Some(Number::Scope(ScopeId(0)))),
         row(2, Code::Block, None, None),
         row(3, Code::Instruction, Some(7), None),
-        leaf(4, 15, span(6, 2), span(6, 1)),
+        leaf(4, Kind::JsxExpression, span(6, 2), span(6, 1)),
         row(1, Code::Return, Some(7), None),
     ]
 }

@@ -9,7 +9,7 @@ use hir::ids::IdentifierId;
 use hir::span::Span;
 
 // A row whose lists are spans of a pool.
-#[derive(Clone, Copy)]
+#[derive(Clone, Copy, Default)]
 pub struct RowEntry {
     pub depth: u32,
     pub code: u8,
