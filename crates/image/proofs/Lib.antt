@@ -1,3 +1,3 @@
-pub mod Readings
+pub mod Words
 pub mod Opens
 pub mod Turns

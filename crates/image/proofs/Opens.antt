@@ -1,12 +1,12 @@
 -- A section by its length, its letter and the rest of the image. Assumes nothing.
-use Rattle.std.proofs.Common.{◌≡◌, ℕ, ◌+◌, ◌-◌, ◌*◌, ◌<◌, ◌≤◌, Bool, true, false, cond, eqb, ltb, List, [], ◌∷◌, length, get_or, take, drop, Ok, Err, Result, sym, refl, ap, ◌∙◌, ⊎_elim, arith, length-drop, length-take-le, get_or-drop, get_or-take, drop-drop}
+use Rattle.std.proofs.Common.{◌≡◌, ℕ, ◌+◌, ◌-◌, ◌<◌, ◌≤◌, cond, eqb, List, length, get_or, take, drop, Err, Result, sym, ap, ◌∙◌, ⊎_elim, arith, length-drop, length-take-le, get_or-drop, get_or-take, drop-drop}
 use Rattle.std.proofs.lemmas.List.{drop-take}
 use Rattle.std.proofs.lemmas.Bool.{le-ltb, lt-ltb, eq-eqb, ne_eqb, cond-false, cond-true, cases_lt}
 use Rattle.image.specs.declared.fault.ByteFault.{ByteFault}
 use Rattle.image.specs.declared.fault.SectionFault.{SectionFault}
 use Rattle.image.specs.declared.fault.SectionFault.TheVariants.{Bytes}
 use Rattle.image.specs.Bytes.{Place, u32_of}
-use Rattle.image.specs.Steps.{Opened, and_then, in_section, missing, u8_at, part_at, lettered_at, section_at, opened_at}
+use Rattle.image.specs.Steps.{Opened, and_then, in_section, missing, u8_at, lettered_at, section_at, opened_at}
 
 module _ (n : ℕ) (bs : List ℕ) (size letter : ℕ) (rest : List ℕ) (long : 5 ≤ length bs) (sized : size ≡ u32_of bs) (named : letter ≡ get_or bs 4 0) (left : rest ≡ drop 5 bs) where
   rest_long : length rest + 5 ≡ length bs

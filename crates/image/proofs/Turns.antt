@@ -1,28 +1,28 @@
 -- What one turn over rows keeps. Assumes nothing.
-use Rattle.std.proofs.Common.{◌≡◌, ℕ, zero, suc, ◌+◌, ◌-◌, ◌*◌, ◌<◌, ◌≤◌, Bool, true, false, cond, eqb, ltb, List, [], ◌∷◌, length, Ok, Err, Result, sym, refl, ap, ◌∙◌, arith}
+use Rattle.std.proofs.Common.{◌≡◌, ℕ, zero, suc, ◌-◌, ◌<◌, ◌≤◌, List, [], ◌∷◌, length, Ok, Err, Result, refl, ap, ◌∙◌, arith}
 use Rattle.std.proofs.lemmas.Bool.{eq-eqb, ne_eqb, cond-false, cond-true}
 use Rattle.image.specs.declared.fault.SectionFault.{SectionFault}
 use Rattle.image.specs.declared.fault.RowFault.{RowFault}
 use Rattle.image.specs.declared.fault.RowFault.TheVariants.{Deep, Section}
-use Rattle.image.specs.Bytes.{Place, Inside}
+use Rattle.image.specs.Bytes.{Place}
 use Rattle.image.specs.Format.{Fields, Tree}
 use Rattle.image.specs.Steps.{and_then, in_row, ended, passed, head_at, many_by, many_at, row_at}
 
 -- a reading that ends somewhere got something
 pub ended_ok : {X E : Type 0} (r : Result (X × Place) E) (q : Place) → ended r ≡ Ok q → (x : X) × (r ≡ Ok (x, q))
 ended_ok (Ok v) q e = (v.0, ap (λ (t : Place). Ok (v.0, t)) (cc))
-ended_ok (Err f) q e = absurd (let z : ◌≡◌ {A = ℕ} 0 1 = cc in omega arith)
+ended_ok (Err f) q e = absurd (cc)
 
 pub ended_err : {X E : Type 0} (r : Result (X × Place) E) (f : E) → ended r ≡ Err f → r ≡ Err f
-ended_err (Ok v) f e = absurd (let z : ◌≡◌ {A = ℕ} 0 1 = cc in omega arith)
+ended_err (Ok v) f e = absurd (cc)
 ended_err (Err g) f e = cc
 
 pub passed_ok : {X E : Type 0} (r : Result X E) → passed r ≡ Ok tt → (x : X) × (r ≡ Ok x)
 passed_ok (Ok x) e = (x, refl)
-passed_ok (Err f) e = absurd (let z : ◌≡◌ {A = ℕ} 0 1 = cc in omega arith)
+passed_ok (Err f) e = absurd (cc)
 
 pub passed_err : {X E : Type 0} (r : Result X E) (f : E) → passed r ≡ Err f → r ≡ Err f
-passed_err (Ok x) f e = absurd (let z : ◌≡◌ {A = ℕ} 0 1 = cc in omega arith)
+passed_err (Ok x) f e = absurd (cc)
 passed_err (Err g) f e = cc
 
 -- what is made of a value does not alter whether it passes
@@ -37,14 +37,13 @@ ended_made (Err e) f = refl
 
 -- of the rows at p, those at q are left to check: at most `most` of them
 pub record Sofar {X : Type 0} (read : Place → Result (X × Place) RowFault) (p q : Place) : Type 0 where
-  pub inside : Inside q
   pub most : ℕ
   pub enough : length q.1 ≤ most
   pub same : passed (many_at read p) ≡ passed (many_by read most q)
 
 module _ {X : Type 0} (read : Place → Result (X × Place) RowFault) where
-  pub begin : (p : Place) → Inside p → Sofar read p p
-  begin p h = record { inside = h; most = length p.1; enough = omega arith; same = refl }
+  pub begin : (p : Place) → Sofar read p p
+  begin p = record { most = length p.1; enough = omega arith; same = refl }
 
   -- what comes of the first reading
   abbrev first : ℕ → Result (X × Place) RowFault → Result (List X) RowFault
@@ -64,12 +63,11 @@ module _ {X : Type 0} (read : Place → Result (X × Place) RowFault) where
   step p q zero le same some = absurd (some (omega arith))
   step p q (suc n) le same some = (n, refl, same ∙ ap passed (more q n some))
 
-  pub turn : (p q r : Place) → Sofar read p q → (length q.1 ≡ 0 → ⊥) → ended (read q) ≡ Ok r → length r.1 < length q.1 → Inside r → Sofar read p r
-  turn p q r s some is less h =
+  pub turn : (p q r : Place) → Sofar read p q → (length q.1 ≡ 0 → ⊥) → ended (read q) ≡ Ok r → length r.1 < length q.1 → Sofar read p r
+  turn p q r s some is less =
       let t = step p q s.most s.enough s.same some in
       let got = ended_ok (read q) r is in
       record {
-        inside = h;
         most = t.0;
         enough = omega (arith, t.1, s.enough);
         same = t.2 ∙ ap (λ x. passed (first t.0 x)) got.1 ∙ passed_made (many_by read t.0 r) (λ xs. got.0 ∷ xs);
@@ -89,7 +87,7 @@ pub tree_rows : (r : Result (List ℕ × Place) SectionFault) (q : Place) → en
 tree_rows (Ok v) q e =
     let k : v.1 ≡ q = cc in
     ended_made (row_at 128 v.1) (λ t. (v.0, t)) ∙ ap (λ x. ended (row_at 128 x)) k
-tree_rows (Err f) q e = absurd (let z : ◌≡◌ {A = ℕ} 0 1 = cc in omega arith)
+tree_rows (Err f) q e = absurd (cc)
 
 -- what comes of a row's head
 abbrev on_head : (n : ℕ) → Result (Fields × Place × Place) SectionFault → Result (Tree (suc n) × Place) RowFault

@@ -1,9 +1,23 @@
 -- What a fault tells: cause, byte and layer. Assumes nothing.
 use Rattle.std.specs.Prelude.{ℕ}
-use Rattle.image.specs.declared.fault.ByteFault.{ByteFault}
 use Rattle.image.specs.declared.fault.SectionFault.TheVariants.{Version, Letter, Left, Bytes}
 use Rattle.image.specs.declared.fault.RowFault.{RowFault}
 use Rattle.image.specs.declared.fault.RowFault.TheVariants.{Deep, Section}
+use Rattle.image.specs.declared.fault.Cause.{Cause}
+use Rattle.image.specs.declared.fault.Cause.TheVariants as causes
+use Rattle.image.specs.declared.fault.Layer.{Layer}
+use Rattle.image.specs.declared.fault.Layer.TheVariants as layers
+
+abbrev pub cause_number : Cause → ℕ
+cause_number causes.Depth = 7
+cause_number causes.Version = 13
+cause_number causes.Bytes = 14
+cause_number causes.Section = 15
+
+abbrev pub layer_number : Layer → ℕ
+layer_number layers.Bytes = 1
+layer_number layers.Sections = 2
+layer_number layers.Rows = 3
 
 -- the number of the refusal
 abbrev pub cause_of : RowFault → ℕ

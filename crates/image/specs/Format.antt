@@ -1,11 +1,11 @@
 -- What an image is, and the first fault of bytes that are none. Assumes nothing.
-use Rattle.std.specs.Prelude.{◌≡◌, ℕ, zero, suc, ◌+◌, ◌*◌, ◌^◌, ◌<◌, max, Bool, true, false, cond, ◌&&◌, ◌≢◌, List, [], ◌∷◌, ◌++◌, map, length, ◌==◌, nat_le, nat_lt, slice_index}
+use Rattle.std.specs.Prelude.{◌≡◌, ℕ, zero, suc, ◌+◌, ◌<◌, max, Bool, true, false, cond, ◌&&◌, ◌≢◌, List, [], ◌∷◌, ◌++◌, length, ◌==◌, nat_le, nat_lt, slice_index}
 use Rattle.hir.specs.Lists.{Each}
 use Rattle.image.specs.declared.fault.SectionFault.TheVariants.{Version}
 use Rattle.image.specs.declared.fault.RowFault.{RowFault}
 use Rattle.image.specs.declared.fault.RowFault.TheVariants.{Section}
 use Rattle.image.specs.Bytes.{Place, past, joined}
-use Rattle.image.specs.Layouts.{Layout, Begins, Whole, Fills, byte, word, numbers, ◌then◌, ◌then_all◌, only, many, part, short, letter, left, deep}
+use Rattle.image.specs.Layouts.{Layout, Begins, Whole, byte, word, numbers, ◌then◌, ◌then_all◌, only, many, part, short, letter, left, deep}
 
 -- the fields of a row: code, identifier, number, kind, mode, operands, marks
 abbrev pub Fields : Type 0

@@ -1,7 +1,6 @@
 -- How values lie in bytes, for any value: what is written of it, and where bytes first fail to begin with one. Assumes nothing.
 use Rattle.std.specs.Prelude.{◌≡◌, ℕ, ◌+◌, ◌*◌, ◌^◌, ◌<◌, ◌≤◌, List, [], ◌∷◌, ◌++◌, length}
 use Rattle.hir.specs.Lists.{Each}
-use Rattle.image.specs.declared.fault.ByteFault.{ByteFault}
 use Rattle.image.specs.declared.fault.SectionFault.TheVariants.{Letter, Left, Bytes}
 use Rattle.image.specs.declared.fault.RowFault.{RowFault}
 use Rattle.image.specs.declared.fault.RowFault.TheVariants.{Deep, Section}

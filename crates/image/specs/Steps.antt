@@ -1,5 +1,5 @@
 -- What each function of the reader answers, step by step. Assumes nothing.
-use Rattle.std.specs.Prelude.{◌≡◌, ℕ, zero, suc, ◌+◌, ◌-◌, ◌*◌, Bool, cond, List, [], ◌∷◌, length, take, drop, Ok, Err, Result, ◌==◌, nat_lt, slice_index}
+use Rattle.std.specs.Prelude.{◌≡◌, ℕ, zero, suc, ◌+◌, ◌-◌, ◌*◌, cond, List, [], ◌∷◌, length, take, drop, Ok, Err, Result, ◌==◌, nat_lt, slice_index}
 use Rattle.image.specs.declared.fault.ByteFault.{ByteFault}
 use Rattle.image.specs.declared.fault.SectionFault.{SectionFault}
 use Rattle.image.specs.declared.fault.SectionFault.TheVariants.{Version, Letter, Left, Bytes}
@@ -11,7 +11,7 @@ use Rattle.image.specs.declared.section.Section.{Section}
 use Rattle.image.specs.declared.section.Section.TheVariants.{Identifiers, Scope, Function, Tree as TreePart}
 use Rattle.image.specs.declared.section.Open.{Open}
 use Rattle.image.specs.declared.section.Reader.{Reader}
-use Rattle.image.specs.Bytes.{Place, Inside, see, past, next, u32_of, words}
+use Rattle.image.specs.Bytes.{Place, see, past, next, u32_of, words}
 use Rattle.image.specs.Format.{Fields, Tree, rank_of_letter}
 
 -- an answer of the program, seen by `view`, is what a definition says
@@ -114,12 +114,6 @@ see_open o = record { section = held o.section; unread = see o.unread; behind = 
 
 abbrev pub see_reader : Reader → Place
 see_reader r = see r.left
-
--- nothing of the section is read yet, and its places can be named
-pub record Fresh (o : Opened) : Type 0 where
-  pub unread : o.unread.1 ≡ o.section.bytes
-  pub inside : Inside o.unread
-  pub behind : Inside o.behind
 
 -- a letter at byte n, with its content and what is behind the section
 abbrev pub lettered_at : ℕ → ℕ → Place → Place → Result Opened SectionFault

@@ -2,7 +2,7 @@
 ghost use Rattle.std.specs.Prelude.{◌≡◌};
 ghost use Rattle.image.specs.declared.fault.SectionFault.TheVariants.{Bytes};
 ghost use Rattle.image.specs.declared.fault.RowFault.TheVariants.{Section};
-ghost use Rattle.image.specs.Faults.{cause_of, byte_of, layer_of};
+ghost use Rattle.image.specs.Faults.{cause_number, layer_number, cause_of, byte_of, layer_of};
 
 // Layer 1: a length, a count or a field at this byte passes its holder, or is missing there.
 #[derive(Clone, Copy)]
@@ -26,6 +26,39 @@ pub enum RowFault {
     Section(SectionFault),
 }
 
+// What is refused of an image, under its number.
+#[derive(Clone, Copy, PartialEq)]
+pub enum Cause {
+    Depth = 7,
+    Version = 13,
+    Bytes = 14,
+    Section = 15,
+}
+
+// The layers of the reader, under their numbers.
+#[derive(Clone, Copy, PartialEq)]
+pub enum Layer {
+    Bytes = 1,
+    Sections = 2,
+    Rows = 3,
+}
+
+impl Cause {
+    pub fn number(self) -> u8
+        ensures { result ≡ cause_number self }
+    {
+        self as u8
+    }
+}
+
+impl Layer {
+    pub fn number(self) -> u8
+        ensures { result ≡ layer_number self }
+    {
+        self as u8
+    }
+}
+
 impl From<ByteFault> for SectionFault {
     ghost from_gives = { λ f r. r ≡ Bytes f };
 
@@ -43,16 +76,15 @@ impl From<SectionFault> for RowFault {
 }
 
 impl RowFault {
-    // The number of the refusal.
-    pub fn cause(self) -> u8
-        ensures { result ≡ cause_of self }
+    // What is refused.
+    pub fn cause(self) -> Cause
+        ensures { cause_number result ≡ cause_of self }
     {
         match self {
-            RowFault::Deep(_) => 7,
-            RowFault::Section(SectionFault::Version) => 13,
-            RowFault::Section(SectionFault::Bytes(_)) => 14,
-            RowFault::Section(SectionFault::Letter(_)) => 15,
-            RowFault::Section(SectionFault::Left(_)) => 15,
+            RowFault::Deep(_) => Cause::Depth,
+            RowFault::Section(SectionFault::Version) => Cause::Version,
+            RowFault::Section(SectionFault::Bytes(_)) => Cause::Bytes,
+            RowFault::Section(SectionFault::Letter(_) | SectionFault::Left(_)) => Cause::Section,
         }
     }
 
@@ -61,22 +93,21 @@ impl RowFault {
         ensures { result ≡ byte_of self }
     {
         match self {
-            RowFault::Deep(at) => at,
             RowFault::Section(SectionFault::Version) => 0,
             RowFault::Section(SectionFault::Bytes(fault)) => fault.at,
-            RowFault::Section(SectionFault::Letter(at)) => at,
-            RowFault::Section(SectionFault::Left(at)) => at,
+            RowFault::Deep(at)
+            | RowFault::Section(SectionFault::Letter(at) | SectionFault::Left(at)) => at,
         }
     }
 
-    // The layer that found it: 1 bytes, 2 sections, 3 rows.
-    pub fn layer(self) -> u8
-        ensures { result ≡ layer_of self }
+    // The layer that found it.
+    pub fn layer(self) -> Layer
+        ensures { layer_number result ≡ layer_of self }
     {
         match self {
-            RowFault::Deep(_) => 3,
-            RowFault::Section(SectionFault::Bytes(_)) => 1,
-            RowFault::Section(_) => 2,
+            RowFault::Deep(_) => Layer::Rows,
+            RowFault::Section(SectionFault::Bytes(_)) => Layer::Bytes,
+            RowFault::Section(_) => Layer::Sections,
         }
     }
 }

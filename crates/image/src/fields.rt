@@ -1,10 +1,8 @@
 // A row's fields, with its lists as parts of the image.
-ghost use Rattle.std.specs.Prelude.{◌≡◌, IfOk};
-ghost use Rattle.std.specs.List.{slice_get};
-ghost use Rattle.image.specs.Bytes.{Inside, see};
+ghost use Rattle.std.specs.Prelude.{◌≡◌, ◌<◌, length, slice_index};
+ghost use Rattle.image.specs.Bytes.{see};
 ghost use Rattle.image.specs.Steps.{Is, fields_at, see_fields, see_numbers};
 
-use crate::bytes::{read_numbers, read_u8, read_u32};
 use crate::cursor::Cursor;
 use crate::fault::ByteFault;
 
@@ -12,6 +10,25 @@ use crate::fault::ByteFault;
 #[derive(Clone, Copy)]
 pub struct Numbers<'a> {
     pub bytes: &'a [u8],
+}
+
+#[tactic(auto, using(crate::proofs::Words::length_words))]
+impl<'a> Numbers<'a> {
+    // How many there are.
+    pub fn len(self) -> usize
+        ensures { result ≡ length (see_numbers self.entry) }
+    {
+        self.bytes.len() / 4
+    }
+
+    // Number i.
+    pub fn at(self, i: usize) -> u32
+        requires { i < length (see_numbers self) }
+        ensures { result ≡ slice_index (see_numbers self.entry) i }
+    {
+        let (words, _) = self.bytes.as_chunks::<4>();
+        u32::from_be_bytes(words[i])
+    }
 }
 
 // The fields of a row; a number of all ones stands for an absent one.
@@ -26,21 +43,19 @@ pub struct RowFields<'a> {
     pub marks: Numbers<'a>,
 }
 
-// A row's fields, and what follows them.
-pub fn read_fields<'a>(cursor: Cursor<'a>) -> Result<(RowFields<'a>, Cursor<'a>), ByteFault>
-    requires { Inside (see cursor) }
-    ensures is { Is (λ v. (see_fields v.0, see v.1)) result (fields_at (see cursor.entry)) }
-    ensures inside { IfOk result (λ v. Inside (see v.1)) }
-{
-    let (code, rest) = read_u8(cursor)?;
-    let (identifier, rest) = read_u32(rest)?;
-    let (number, rest) = read_u32(rest)?;
-    let (kind, rest) = read_u8(rest)?;
-    let (mode, rest) = read_u8(rest)?;
-    let (operands, rest) = read_numbers(rest)?;
-    let (marks, rest) = read_numbers(rest)?;
-    Ok((
-        RowFields {
+impl<'a> Cursor<'a> {
+    // A row's fields, and what follows them.
+    pub fn read_fields(self) -> Result<(RowFields<'a>, Cursor<'a>), ByteFault>
+        ensures { Is (λ v. (see_fields v.0, see v.1)) result (fields_at (see self.entry)) }
+    {
+        let (code, rest) = self.read_u8()?;
+        let (identifier, rest) = rest.read_u32()?;
+        let (number, rest) = rest.read_u32()?;
+        let (kind, rest) = rest.read_u8()?;
+        let (mode, rest) = rest.read_u8()?;
+        let (operands, rest) = rest.read_numbers()?;
+        let (marks, rest) = rest.read_numbers()?;
+        let fields = RowFields {
             code,
             identifier,
             number,
@@ -48,7 +63,7 @@ pub fn read_fields<'a>(cursor: Cursor<'a>) -> Result<(RowFields<'a>, Cursor<'a>)
             mode,
             operands,
             marks,
-        },
-        rest,
-    ))
+        };
+        Ok((fields, rest))
+    }
 }

@@ -1,37 +1,34 @@
 // Layer 3: rows within rows, at most 128 of them open.
 ghost use Rattle.std.specs.Prelude.{◌≡◌, ℕ, ◌+◌, ◌≤◌, length, IfOk};
-ghost use Rattle.image.specs.Bytes.{Inside, see};
+ghost use Rattle.image.specs.Bytes.{see};
 ghost use Rattle.image.specs.Steps.{Is, see_fields, head_at, many_at, row_at, ended, passed};
 
-use crate::bytes::read_part;
 use crate::cursor::Cursor;
 use crate::fault::{RowFault, SectionFault};
-use crate::fields::{RowFields, read_fields};
+use crate::fields::RowFields;
 
-// A row without the rows within it, these, and what follows the row.
-pub fn read_head<'a>(
-    cursor: Cursor<'a>,
-) -> Result<(RowFields<'a>, Cursor<'a>, Cursor<'a>), SectionFault>
-    requires { Inside (see cursor) }
-    ensures is { Is (λ v. (see_fields v.0, see v.1, see v.2)) result (head_at (see cursor.entry)) }
-    ensures inside { IfOk result (λ v. Inside (see v.1) × Inside (see v.2) × (length v.2.rest.now + 4 ≤ length cursor.entry.rest.now)) }
-{
-    let (body, after) = read_part(cursor)?;
-    let (fields, children) = read_fields(body)?;
-    Ok((fields, children, after))
+impl<'a> Cursor<'a> {
+    // A row without the rows within it, these, and what follows the row.
+    pub fn read_head(self) -> Result<(RowFields<'a>, Cursor<'a>, Cursor<'a>), SectionFault>
+        ensures is { Is (λ v. (see_fields v.0, see v.1, see v.2)) result (head_at (see self.entry)) }
+        ensures shorter { IfOk result (λ v. length v.2.rest.now + 4 ≤ length self.entry.rest.now) }
+    {
+        let (body, after) = self.read_part()?;
+        let (fields, children) = body.read_fields()?;
+        Ok((fields, children, after))
+    }
 }
 
 // A row, where `left` more may be open: what follows it.
 #[cycle(check_row_check_rows)]
 pub fn check_row<'a>(cursor: Cursor<'a>, left: u8) -> Result<Cursor<'a>, RowFault>
-    requires { Inside (see cursor) }
     ensures is { Is see result (ended (row_at left (see cursor.entry))) }
-    ensures inside { IfOk result (λ v. Inside (see v) × (length v.rest.now + 4 ≤ length cursor.entry.rest.now)) }
+    ensures shorter { IfOk result (λ v. length v.rest.now + 4 ≤ length cursor.entry.rest.now) }
 {
     if left == 0 {
         return Err(RowFault::Deep(cursor.at));
     }
-    let (_, children, after) = read_head(cursor)?;
+    let (_, children, after) = cursor.read_head()?;
     check_rows(children, left - 1)?;
     Ok(after)
 }
@@ -39,7 +36,6 @@ pub fn check_row<'a>(cursor: Cursor<'a>, left: u8) -> Result<Cursor<'a>, RowFaul
 // Rows to the end of their holder, each with `left` more that may be open.
 #[cycle(check_row_check_rows)]
 pub fn check_rows<'a>(cursor: Cursor<'a>, left: u8) -> Result<(), RowFault>
-    requires { Inside (see cursor) }
     ensures { Is (λ v. v) result (passed (many_at (row_at left) (see cursor.entry))) }
 {
     let mut rest = cursor;

@@ -1,9 +1,9 @@
 // Layer 2: a version byte, then sections to the image's end.
 ghost use Rattle.std.specs.Prelude.{◌≡◌, ℕ, ◌+◌, ◌^◌, ◌<◌, ◌≤◌, length, IfOk, ◌==◌};
-ghost use Rattle.image.specs.Bytes.{Inside, see};
-ghost use Rattle.image.specs.Steps.{Is, Fresh, held, see_open, see_reader, section_at, opened_at, closed_at, version_at};
+ghost use Rattle.image.specs.Bytes.{see};
+ghost use Rattle.image.specs.Steps.{Is, held, see_open, see_reader, section_at, opened_at, closed_at, version_at};
 
-use crate::bytes::{read_u8, u32_of};
+use crate::bytes::u32_of;
 use crate::cursor::Cursor;
 use crate::fault::{ByteFault, SectionFault};
 
@@ -33,9 +33,9 @@ impl<'a> Reader<'a> {
     // The sections of an image of version 1.
     pub fn new(image: &'a [u8]) -> Result<Reader<'a>, SectionFault>
         ensures is { Is see_reader result (version_at image.now) }
-        ensures inside { IfOk result (λ v. Inside (see_reader v) × (length (see_reader v).1 < length image.now)) }
+        ensures shorter { IfOk result (λ v. length (see_reader v).1 < length image.now) }
     {
-        let (version, left) = read_u8(Cursor { rest: image, at: 0 })?;
+        let (version, left) = Cursor::new(image).read_u8()?;
         if version != 1 {
             return Err(SectionFault::Version);
         }
@@ -57,9 +57,9 @@ impl<'a> Reader<'a> {
 
     // Opens the next section.
     pub fn open(self) -> Result<Open<'a>, SectionFault>
-        requires { Inside (see_reader self) }
         ensures is { Is see_open result (section_at (see_reader self.entry)) }
-        ensures inside { IfOk result (λ o. Fresh (see_open o) × (length o.behind.rest.now < length self.entry.left.rest.now)) }
+        ensures fresh { IfOk result (λ o. (see_open o).unread.1 ≡ (see_open o).section.bytes) }
+        ensures shorter { IfOk result (λ o. length o.behind.rest.now < length self.entry.left.rest.now) }
     {
         let Reader { left } = self;
         match left.rest {
@@ -127,7 +127,8 @@ impl<'a> Open<'a> {
 fn opened<'a>(at: usize, size: usize, letter: u8, rest: &'a [u8]) -> Result<Open<'a>, SectionFault>
     requires { at + (5 + length rest.now) < 2 ^ 64 }
     ensures is { Is see_open result (opened_at at size letter rest.now) }
-    ensures inside { IfOk result (λ o. Fresh (see_open o) × (length o.behind.rest.now ≤ length rest.now)) }
+    ensures fresh { IfOk result (λ o. (see_open o).unread.1 ≡ (see_open o).section.bytes) }
+    ensures shorter { IfOk result (λ o. length o.behind.rest.now ≤ length rest.now) }
 {
     if size > rest.len() + 1 {
         return Err(SectionFault::Bytes(ByteFault { at }));
