@@ -40,10 +40,9 @@ impl<'a> Cursor<'a> {
         ensures { Is (λ v. (see_numbers v.0, see v.1)) result (numbers_at (see self.entry)) }
     {
         let (count, body) = self.read_u32()?;
-        match body.split(count as usize * 4) {
-            Some((list, rest)) => Ok((Numbers { bytes: list.rest }, rest)),
-            None => Err(ByteFault { at: self.at }),
-        }
+        let fault = ByteFault { at: self.at };
+        let (list, rest) = body.split(count as usize * 4).ok_or(fault)?;
+        Ok((Numbers { bytes: list.rest }, rest))
     }
 
     // What a length counts, and what follows it.
@@ -52,9 +51,7 @@ impl<'a> Cursor<'a> {
         ensures shorter { IfOk result (λ v. length v.1.rest.now + 4 ≤ length self.entry.rest.now) }
     {
         let (length, body) = self.read_u32()?;
-        match body.split(length as usize) {
-            Some(parts) => Ok(parts),
-            None => Err(ByteFault { at: self.at }),
-        }
+        let fault = ByteFault { at: self.at };
+        body.split(length as usize).ok_or(fault)
     }
 }

@@ -32,6 +32,7 @@ impl<'a> Numbers<'a> {
 }
 
 // The fields of a row; a number of all ones stands for an absent one.
+// No Option here: the answer of `fields_at` is words, so that each None would be turned back into all ones.
 #[derive(Clone, Copy)]
 pub struct RowFields<'a> {
     pub code: u8,

@@ -65,7 +65,11 @@ impl<'a> Reader<'a> {
         match left.rest {
             [a, b, c, d, letter, rest @ ..] => {
                 let size = u32_of(*a, *b, *c, *d) as usize;
-                opened(left.at, size, *letter, rest)
+                let content = Cursor {
+                    rest,
+                    at: left.at + 5,
+                };
+                opened(left.at, size, *letter, content)
             }
             [0, 0, 0, 0] => Err(SectionFault::Bytes(ByteFault { at: left.at + 4 })),
             _ => Err(SectionFault::Bytes(ByteFault { at: left.at })),
@@ -123,36 +127,34 @@ impl<'a> Open<'a> {
     }
 }
 
-// The section at `at`, whose length says `size`, where `rest` is left of the image behind its letter.
-fn opened<'a>(at: usize, size: usize, letter: u8, rest: &'a [u8]) -> Result<Open<'a>, SectionFault>
-    requires { at + (5 + length rest.now) < 2 ^ 64 }
-    ensures is { Is see_open result (opened_at at size letter rest.now) }
+// The section at `at`, whose length says `size`: `content` is what follows its letter.
+fn opened<'a>(
+    at: usize,
+    size: usize,
+    letter: u8,
+    content: Cursor<'a>,
+) -> Result<Open<'a>, SectionFault>
+    requires { content.at ≡ at + 5 }
+    ensures is { Is see_open result (opened_at at size letter content.entry.rest.now) }
     ensures fresh { IfOk result (λ o. (see_open o).unread.1 ≡ (see_open o).section.bytes) }
-    ensures shorter { IfOk result (λ o. length o.behind.rest.now ≤ length rest.now) }
+    ensures shorter { IfOk result (λ o. length o.behind.rest.now ≤ length content.entry.rest.now) }
 {
-    if size > rest.len() + 1 {
-        return Err(SectionFault::Bytes(ByteFault { at }));
-    }
     if size == 0 {
         return Err(SectionFault::Bytes(ByteFault { at: at + 4 }));
     }
-    let (bytes, behind) = rest.split_at(size - 1);
+    let Some((unread, behind)) = content.split(size - 1) else {
+        return Err(SectionFault::Bytes(ByteFault { at }));
+    };
     let section = match letter {
-        b'I' => Section::Identifiers(bytes),
-        b'S' => Section::Scope(bytes),
-        b'F' => Section::Function(bytes),
-        b'T' => Section::Tree(bytes),
+        b'I' => Section::Identifiers(unread.rest),
+        b'S' => Section::Scope(unread.rest),
+        b'F' => Section::Function(unread.rest),
+        b'T' => Section::Tree(unread.rest),
         _ => return Err(SectionFault::Letter(at + 4)),
     };
     Ok(Open {
         section,
-        unread: Cursor {
-            rest: bytes,
-            at: at + 5,
-        },
-        behind: Cursor {
-            rest: behind,
-            at: at + 4 + size,
-        },
+        unread,
+        behind,
     })
 }
