@@ -42,9 +42,6 @@ pub record Sofar {X : Type 0} (read : Place → Result (X × Place) RowFault) (p
   pub same : passed (many_at read p) ≡ passed (many_by read most q)
 
 module _ {X : Type 0} (read : Place → Result (X × Place) RowFault) where
-  pub begin : (p : Place) → Sofar read p p
-  begin p = record { most = length p.1; enough = omega arith; same = refl }
-
   -- what comes of the first reading
   abbrev first : ℕ → Result (X × Place) RowFault → Result (List X) RowFault
   first n r = and_then r (λ v. and_then (many_by read n v.1) (λ xs. Ok (v.0 ∷ xs)))
@@ -55,9 +52,6 @@ module _ {X : Type 0} (read : Place → Result (X × Place) RowFault) where
   pub done : (q : Place) (n : ℕ) → length q.1 ≡ 0 → many_by read n q ≡ Ok []
   done q zero none = refl
   done q (suc n) none = cond-true _ _ _ (eq-eqb (length q.1) 0 none)
-
-  pub end : (p q : Place) → Sofar read p q → length q.1 ≡ 0 → passed (many_at read p) ≡ Ok tt
-  end p q s none = s.same ∙ ap passed (done q s.most none)
 
   step : (p q : Place) (m : ℕ) → length q.1 ≤ m → passed (many_at read p) ≡ passed (many_by read m q) → (length q.1 ≡ 0 → ⊥) → (n : ℕ) × (m ≡ suc n) × (passed (many_at read p) ≡ passed (first n (read q)))
   step p q zero le same some = absurd (some (omega arith))
@@ -73,21 +67,9 @@ module _ {X : Type 0} (read : Place → Result (X × Place) RowFault) where
         same = t.2 ∙ ap (λ x. passed (first t.0 x)) got.1 ∙ passed_made (many_by read t.0 r) (λ xs. got.0 ∷ xs);
       }
 
-  pub stop : (p q : Place) (e : RowFault) → Sofar read p q → (length q.1 ≡ 0 → ⊥) → ended (read q) ≡ Err e → passed (many_at read p) ≡ Err e
-  stop p q e s some is =
-      let t = step p q s.most s.enough s.same some in
-      t.2 ∙ ap (λ x. passed (first t.0 x)) (ended_err (read q) e is)
-
 pub row_deep : (left : ℕ) (p : Place) → left ≡ 0 → ended (row_at left p) ≡ Err (Deep p.0)
 row_deep zero p e = refl
 row_deep (suc n) p e = absurd (omega arith)
-
--- row 0 behind own parameters
-pub tree_rows : (r : Result (List ℕ × Place) SectionFault) (q : Place) → ended r ≡ Ok q → ended {X = List ℕ × Tree 128} (and_then (in_row r) (λ v. and_then (row_at 128 v.1) (λ w. Ok ((v.0, w.0), w.1)))) ≡ ended (row_at 128 q)
-tree_rows (Ok v) q e =
-    let k : v.1 ≡ q = cc in
-    ended_made (row_at 128 v.1) (λ t. (v.0, t)) ∙ ap (λ x. ended (row_at 128 x)) k
-tree_rows (Err f) q e = absurd (cc)
 
 -- what comes of a row's head
 abbrev on_head : (n : ℕ) → Result (Fields × Place × Place) SectionFault → Result (Tree (suc n) × Place) RowFault

@@ -1,16 +1,16 @@
 -- What a section holds. Assumes nothing.
-use Rattle.std.proofs.Common.{◌≡◌, ℕ, zero, suc, ◌+◌, ◌*◌, ◌/◌, ◌^◌, ◌<◌, ◌≤◌, Bool, true, false, cond, eqb, ltb, List, [], ◌∷◌, ◌++◌, length, get_or, drop, Ok, Err, Result, sym, refl, ap, ◌∙◌, subst, append_assoc, append-nil, arith, length-append, length-drop, drop-drop, eqb-true}
+use Rattle.std.proofs.Common.{◌≡◌, ℕ, zero, suc, ◌+◌, ◌*◌, ◌/◌, ◌^◌, ◌<◌, ◌≤◌, Bool, true, false, cond, eqb, List, [], ◌∷◌, ◌++◌, length, get_or, drop, Ok, Err, Result, sym, refl, ap, ◌∙◌, subst, append_assoc, append-nil, arith, length-append, length-drop, drop-drop, eqb-true}
 use borrow.Author.Tests.{eqb-false}
 use Rattle.std.proofs.lemmas.Bool.{cond-false, cond-true, eq-eqb, ne_eqb}
 use Rattle.hir.specs.Lists.{Each}
 use Rattle.image.specs.declared.fault.RowFault.{RowFault}
-use Rattle.image.specs.Bytes.{Place, past, u32_of, be, joined}
+use Rattle.image.specs.Bytes.{Place, u32_of, be, joined}
 use Rattle.image.specs.Layouts.{Layout, only, left, numbers, ◌then◌}
-use Rattle.image.specs.Format.{Scope, Function, Panel, identifier, IdentifiersFault, over, identifiers, scope, function, tree, row, Content, of_identifiers, of_scope, of_function, of_tree, rank_of, content_bytes, FineContent, ContentFault}
-use Rattle.image.specs.Steps.{and_then, in_section, in_row, both, numbers_at, row_at}
-use Rattle.image_check.specs.Steps.{identifiers_of, identifiers_at, scope_at, function_at, tree_at, wrapped, content_at}
-use Rattle.image_check.proofs.Exact.{AllBytes, Exact, TellsAll, ExactAll, lifted, exact_then, exact_both, end_at, only_at, exact_only, none_left, positive}
-use Rattle.image_check.proofs.Leaves.{four_bytes, be_says, bytes_drop, exact_numbers, drop_front}
+use Rattle.image.specs.Format.{Scope, Function, Panel, identifier, IdentifiersFault, over, scope, function, tree, row, Content, of_identifiers, of_scope, of_function, of_tree, rank_of, content_bytes, FineContent, ContentFault}
+use Rattle.image.specs.Steps.{and_then, both, numbers_at, row_at}
+use Rattle.image_check.specs.Steps.{identifiers_of, scope_at, function_at, tree_at, wrapped, content_at}
+use Rattle.image_check.proofs.Exact.{AllBytes, Exact, TellsAll, ExactAll, lifted, exact_then, exact_both, only_at, exact_only, none_left, positive}
+use Rattle.image_check.proofs.Leaves.{four_bytes, be_says, bytes_drop, exact_numbers}
 use Rattle.image_check.proofs.Rows.{exact_lists, exact_row}
 
 -- the first byte left over is the fault

@@ -1,12 +1,11 @@
 -- A reader is exact for a layout: it gets what bytes begin with, and meets their first fault. Assumes nothing.
-use Rattle.std.proofs.Common.{◌≡◌, ℕ, zero, suc, ◌+◌, ◌-◌, ◌*◌, ◌^◌, ◌<◌, ◌≤◌, Bool, true, false, cond, eqb, ltb, List, [], ◌∷◌, ◌++◌, length, get_or, take, drop, Ok, Err, Result, sym, refl, ap, ◌∙◌, subst, append_assoc, append-nil, arith, length-append, length-drop, eqb-true}
-use Rattle.std.proofs.lemmas.Bool.{eq-eqb, ne_eqb, cond-false, cond-true}
+use Rattle.std.proofs.Common.{◌≡◌, ℕ, zero, suc, ◌+◌, ◌<◌, ◌≤◌, Bool, true, false, cond, eqb, List, [], ◌∷◌, ◌++◌, length, Ok, Err, Result, sym, refl, ap, ◌∙◌, subst, append_assoc, append-nil, arith, length-append, eqb-true}
+use Rattle.std.proofs.lemmas.Bool.{ne_eqb, cond-false}
 use borrow.Author.Tests.{eqb-false}
 use Rattle.hir.specs.Lists.{Each}
 use Rattle.image.specs.declared.fault.ByteFault.{ByteFault}
-use Rattle.image.specs.declared.fault.SectionFault.{SectionFault}
 use Rattle.image.specs.declared.fault.RowFault.{RowFault}
-use Rattle.image.specs.Bytes.{Place, past, next, u32_of, be, joined}
+use Rattle.image.specs.Bytes.{Place, joined}
 use Rattle.image.specs.Layouts.{Layout, Begins, Whole, Fills, AfterFault, ◌then◌, ◌then_all◌, only, OnlyFault, many, ManyFault, left}
 use Rattle.image.specs.Layouts as layouts
 use Rattle.image.specs.Steps.{and_then, in_section, in_row, both, many_by, many_at}

@@ -1,5 +1,5 @@
 -- Bytes, numbers, lists and lengths. Assumes nothing.
-use Rattle.std.proofs.Common.{◌≡◌, ℕ, zero, suc, ◌+◌, ◌-◌, ◌*◌, ◌/◌, ◌%◌, ◌^◌, ◌<◌, ◌≤◌, Bool, true, false, cond, eqb, ltb, List, [], ◌∷◌, ◌++◌, length, get_or, take, drop, Ok, Err, Result, sym, refl, ap, ◌∙◌, subst, append_assoc, arith, length-append, length-drop, take-append-drop, length-take-le, drop-drop}
+use Rattle.std.proofs.Common.{◌≡◌, ℕ, zero, suc, ◌+◌, ◌*◌, ◌/◌, ◌%◌, ◌^◌, ◌<◌, ◌≤◌, Bool, true, false, cond, ltb, List, [], ◌∷◌, ◌++◌, length, get_or, take, drop, Ok, Err, Result, sym, refl, ap, ◌∙◌, subst, append_assoc, arith, length-append, length-drop, take-append-drop, length-take-le, drop-drop}
 use Rattle.std.proofs.lemmas.Bool.{cond-false, cond-true, le-ltb, lt-ltb, ltb-true, ltb-false}
 use Rattle.hir.specs.Lists.{Each}
 use Rattle.image.specs.declared.fault.RowFault.{RowFault}
@@ -7,7 +7,7 @@ use Rattle.image.specs.Bytes.{Place, past, next, u32_of, be, words_of, words, jo
 use Rattle.image.specs.Layouts.{Layout, Begins, Whole, Fills, byte, word, numbers, part, PartFault, short}
 use Rattle.image.specs.Layouts as layouts
 use Rattle.image.specs.Steps.{and_then, in_section, in_row, missing, u8_at, u32_at, numbers_at, part_at}
-use Rattle.image_check.proofs.Exact.{AllBytes, Tells, Exact, TellsAll, ExactAll, lifted, bytes_parts}
+use Rattle.image_check.proofs.Exact.{AllBytes, Tells, Exact, TellsAll, ExactAll, lifted}
 
 -- four bytes say a number, which they are written for
 pub four_bytes : (bs : List ℕ) → AllBytes bs → 4 ≤ length bs → (bs ≡ be (u32_of bs) ++ drop 4 bs) × (u32_of bs < 2 ^ 32)

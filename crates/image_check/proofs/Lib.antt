@@ -1,3 +1,4 @@
+mod Lists
 pub mod Sections
 pub mod Exact
 pub mod Leaves

@@ -1,11 +1,11 @@
 -- Rows within rows. Assumes nothing.
-use Rattle.std.proofs.Common.{◌≡◌, ℕ, zero, suc, ◌+◌, ◌<◌, List, [], ◌∷◌, ◌++◌, length, Ok, Err, Result, sym, refl, ap, ◌∙◌, arith}
+use Rattle.std.proofs.Common.{◌≡◌, ℕ, zero, suc, ◌<◌, List, length, Ok, Err, Result, sym, refl, ap, arith}
 use Rattle.image.specs.declared.fault.ByteFault.{ByteFault}
 use Rattle.image.specs.declared.fault.RowFault.{RowFault}
 use Rattle.image.specs.Bytes.{Place}
-use Rattle.image.specs.Layouts.{Layout, byte, word, numbers, ◌then◌, ◌then_all◌, many, part}
+use Rattle.image.specs.Layouts.{Layout, byte, word, numbers, ◌then◌, ◌then_all◌, many}
 use Rattle.image.specs.Format.{Fields, Tree, fields, row}
-use Rattle.image.specs.Steps.{and_then, in_section, in_row, both, u8_at, u32_at, numbers_at, part_at, fields_at, head_at, many_at, row_at}
+use Rattle.image.specs.Steps.{and_then, in_section, in_row, both, u8_at, u32_at, numbers_at, part_at, fields_at, many_at, row_at}
 use Rattle.image_check.proofs.Exact.{Exact, ExactAll, lifted, exact_same, exact_both, then_all_at, exact_then_all, exact_many}
 use Rattle.image_check.proofs.Leaves.{exact_byte, exact_word, exact_numbers, holder_at, exact_part}
 

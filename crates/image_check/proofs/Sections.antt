@@ -1,10 +1,9 @@
 -- What one turn over sections keeps. Assumes nothing.
-use Rattle.std.proofs.Common.{◌≡◌, ℕ, zero, suc, ◌+◌, ◌-◌, ◌*◌, ◌<◌, ◌≤◌, Bool, true, false, cond, List, [], ◌∷◌, length, Ok, Err, Result, sym, refl, ap, ◌∙◌, arith}
-use Rattle.std.proofs.lemmas.Bool.{cond-false, cond-true}
+use Rattle.std.proofs.Common.{◌≡◌, ℕ, zero, suc, ◌+◌, ◌<◌, true, List, ◌∷◌, length, Ok, Err, Result, refl, ap, ◌∙◌, arith}
+use Rattle.std.proofs.lemmas.Bool.{cond-true}
 use Rattle.image.specs.declared.fault.SectionFault.{SectionFault}
 use Rattle.image.specs.declared.fault.RowFault.{RowFault}
-use Rattle.image.specs.declared.fault.RowFault.TheVariants.{Section}
-use Rattle.image.specs.Bytes.{Place, Inside}
+use Rattle.image.specs.Bytes.{Place}
 use Rattle.image.specs.Format.{Content, after}
 use Rattle.image.specs.Steps.{and_then, in_row, passed, version_at}
 use Rattle.image_check.specs.Steps.{staged, goes_on, one_at, sections_by, image_at}
@@ -12,7 +11,6 @@ use Rattle.image.proofs.Turns.{passed_made}
 
 -- of the image bs, the sections at q are left to check
 pub record Ahead (bs : List ℕ) (stage : ℕ) (q : Place) : Type 0 where
-  pub inside : Inside q
   pub most : ℕ
   pub enough : length q.1 < most
   pub same : passed (image_at bs) ≡ passed (sections_by most stage q)
@@ -21,11 +19,8 @@ pub record Ahead (bs : List ℕ) (stage : ℕ) (q : Place) : Type 0 where
 abbrev on_version : List ℕ → Result Place SectionFault → Result (List Content) RowFault
 on_version bs r = and_then (in_row r) (λ p. sections_by (length bs + 1) 0 p)
 
-pub begin : (bs : List ℕ) (p : Place) → version_at bs ≡ Ok p → Inside p → length p.1 < length bs → Ahead bs 0 p
-begin bs p is h less = record { inside = h; most = length bs + 1; enough = omega arith; same = ap (λ x. passed (on_version bs x)) is }
-
-pub none : (bs : List ℕ) (e : SectionFault) → version_at bs ≡ Err e → passed (image_at bs) ≡ Err (Section e)
-none bs e is = ap (λ x. passed (on_version bs x)) is
+pub begin : (bs : List ℕ) (p : Place) → version_at bs ≡ Ok p → length p.1 < length bs → Ahead bs 0 p
+begin bs p is less = record { most = length bs + 1; enough = omega arith; same = ap (λ x. passed (on_version bs x)) is }
 
 -- what comes of the first section
 abbrev on_section : ℕ → Result (Content × Place) RowFault → Result (List Content) RowFault
@@ -35,29 +30,22 @@ staged_ok : (n : ℕ) (r : Result (Content × Place) RowFault) (next : ℕ) (q :
 staged_ok n (Ok v) next q e =
     let k : ◌≡◌ {A = ℕ × Place} (after v.0, v.1) (next, q) = cc in
     passed_made (sections_by n (after v.0) v.1) (λ cs. v.0 ∷ cs) ∙ ap (λ (w : ℕ × Place). passed (sections_by n w.0 w.1)) k
-staged_ok n (Err f) next q e = absurd (let z : ◌≡◌ {A = ℕ} 0 1 = cc in omega arith)
+staged_ok n (Err f) next q e = absurd (cc)
 
 staged_err : (n : ℕ) (r : Result (Content × Place) RowFault) (f : RowFault) → staged r ≡ Err f → passed (on_section n r) ≡ Err f
-staged_err n (Ok v) f e = absurd (let z : ◌≡◌ {A = ℕ} 0 1 = cc in omega arith)
+staged_err n (Ok v) f e = absurd (cc)
 staged_err n (Err g) f e = cc
 
 step : (bs : List ℕ) (stage : ℕ) (q : Place) (m : ℕ) → length q.1 < m → passed (image_at bs) ≡ passed (sections_by m stage q) → goes_on stage q ≡ true → (n : ℕ) × (m ≡ suc n) × (passed (image_at bs) ≡ passed (on_section n (one_at stage q)))
 step bs stage q zero lt same go = absurd (omega arith)
 step bs stage q (suc n) lt same go = (n, refl, same ∙ ap passed (cond-true _ _ _ go))
 
-pub turn : (bs : List ℕ) (stage : ℕ) (q : Place) (next : ℕ) (r : Place) → Ahead bs stage q → goes_on stage q ≡ true → staged (one_at stage q) ≡ Ok (next, r) → length r.1 < length q.1 → Inside r → Ahead bs next r
-turn bs stage q next r s go is less h =
+pub turn : (bs : List ℕ) (stage : ℕ) (q : Place) (next : ℕ) (r : Place) → Ahead bs stage q → goes_on stage q ≡ true → staged (one_at stage q) ≡ Ok (next, r) → length r.1 < length q.1 → Ahead bs next r
+turn bs stage q next r s go is less =
     let t = step bs stage q s.most s.enough s.same go in
-    record { inside = h; most = t.0; enough = omega (arith, t.1, s.enough); same = t.2 ∙ staged_ok t.0 (one_at stage q) next r is }
+    record { most = t.0; enough = omega (arith, t.1, s.enough); same = t.2 ∙ staged_ok t.0 (one_at stage q) next r is }
 
 pub stop : (bs : List ℕ) (stage : ℕ) (q : Place) (e : RowFault) → Ahead bs stage q → goes_on stage q ≡ true → staged (one_at stage q) ≡ Err e → passed (image_at bs) ≡ Err e
 stop bs stage q e s go is =
     let t = step bs stage q s.most s.enough s.same go in
     t.2 ∙ staged_err t.0 (one_at stage q) e is
-
-last : (stage : ℕ) (q : Place) (m : ℕ) → goes_on stage q ≡ false → sections_by m stage q ≡ Ok []
-last stage q zero go = refl
-last stage q (suc n) go = cond-false _ _ _ go
-
-pub end : (bs : List ℕ) (stage : ℕ) (q : Place) → Ahead bs stage q → goes_on stage q ≡ false → passed (image_at bs) ≡ Ok tt
-end bs stage q s go = s.same ∙ ap passed (last stage q s.most go)

@@ -1,7 +1,7 @@
 -- The check's answer is a verdict. Assumes nothing.
-use Rattle.std.proofs.Common.{◌≡◌, ℕ, zero, suc, ◌+◌, ◌<◌, List, [], ◌∷◌, length, get_or, Ok, Err, Result, sym, refl, ap, ◌∙◌, subst, arith}
+use Rattle.std.proofs.Common.{◌≡◌, ℕ, suc, ◌<◌, List, [], ◌∷◌, get_or, Ok, Err, Result, sym, ap, ◌∙◌, subst}
 use Rattle.image.specs.declared.fault.RowFault.{RowFault}
-use Rattle.image.specs.Format.{Content, InOrder, image_bytes, Image, FirstFault}
+use Rattle.image.specs.Format.{Content, Image, FirstFault}
 use Rattle.image.specs.Steps.{passed}
 use Rattle.image_check.specs.Steps.{image_at}
 use Rattle.image_check.specs.Verdicts.{Verdict}
@@ -16,10 +16,10 @@ all_bytes (b ∷ bs) h = (h 0, all_bytes bs (λ i. h (suc i)))
 module _ (bs : List ℕ) where
   passed_image : (r : Result (List Content) RowFault) → TellsImage bs r → passed r ≡ Ok tt → Image bs
   passed_image (Ok cs) t e = record { contents = cs; ordered = t.0; bytes = t.1 }
-  passed_image (Err f) t e = absurd (let z : ◌≡◌ {A = ℕ} 0 1 = cc in omega arith)
+  passed_image (Err f) t e = absurd (cc)
 
   fault_first : (r : Result (List Content) RowFault) → TellsImage bs r → (f : RowFault) → passed r ≡ Err f → FirstFault bs f
-  fault_first (Ok cs) t f e = absurd (let z : ◌≡◌ {A = ℕ} 0 1 = cc in omega arith)
+  fault_first (Ok cs) t f e = absurd (cc)
   fault_first (Err g) t f e = let same : g ≡ f = cc in subst (FirstFault bs) same t
 
   pub verdict : AllBytes bs → (r : Result (Unit {0}) RowFault) → passed (image_at bs) ≡ r → Verdict bs r

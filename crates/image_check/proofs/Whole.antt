@@ -1,15 +1,14 @@
 -- Sections, and the whole image. Assumes nothing.
-use Rattle.std.proofs.Common.{◌≡◌, ℕ, zero, suc, ◌+◌, ◌<◌, ◌≤◌, Bool, true, false, cond, not, ◌||◌, eqb, ltb, List, [], ◌∷◌, ◌++◌, length, get_or, drop, Ok, Err, Result, sym, refl, ap, ◌∙◌, subst, arith, length-append, eqb-true}
+use Rattle.std.proofs.Common.{◌≡◌, ℕ, zero, suc, ◌+◌, ◌<◌, Bool, true, false, cond, not, ◌||◌, eqb, ltb, List, [], ◌∷◌, ◌++◌, length, Ok, Err, Result, sym, refl, ap, ◌∙◌, subst, arith, length-append, eqb-true}
 use borrow.Author.Tests.{eqb-false}
-use Rattle.std.proofs.lemmas.Bool.{cond-false, cond-true, eq-eqb, ne_eqb, le-ltb, ltb-true, ltb-false}
+use Rattle.std.proofs.lemmas.Bool.{cond-false, cond-true, eq-eqb, ne_eqb, le-ltb, ltb-false}
 use Rattle.std.proofs.lemmas.Bool.Decides.{nat_tests}
 use Rattle.image.specs.declared.fault.ByteFault.{ByteFault}
 use Rattle.image.specs.declared.fault.SectionFault.{SectionFault}
 use Rattle.image.specs.declared.fault.SectionFault.TheVariants.{Version, Letter, Left}
 use Rattle.image.specs.declared.fault.RowFault.{RowFault}
-use Rattle.image.specs.declared.fault.RowFault.TheVariants.{Section}
 use Rattle.image.specs.Bytes.{Place, past, next, u32_of, joined}
-use Rattle.image.specs.Layouts.{Layout, Begins, Whole, Fills, part, short, letter, left}
+use Rattle.image.specs.Layouts.{Begins, Fills, letter, left}
 use Rattle.image.specs.Format.{Content, of_identifiers, of_scope, of_function, of_tree, rank_of, letter_of, content_bytes, FineContent, rank_of_letter, due, after, LetteredFault, lettered, section, section_bytes, InOrder, SectionsFault, sections, image_bytes, Image, FirstFault}
 use Rattle.image.specs.Format as format
 use Rattle.image.specs.Steps.{and_then, in_section, in_row, missing, u8_at, part_at, Opened, lettered_at, section_at, closed_at, version_at}
@@ -145,7 +144,7 @@ letter_opens (of_tree x) p q = refl
 
 lifted_part : (r : Result (Place × Place) ByteFault) (v : Place × Place) → in_row (in_section r) ≡ Ok v → in_section r ≡ Ok v
 lifted_part (Ok x) v e = cc
-lifted_part (Err f) v e = absurd (let z : ◌≡◌ {A = ℕ} 0 1 = cc in omega arith)
+lifted_part (Err f) v e = absurd (cc)
 
 pub section_found : (stage : ℕ) (c : Content) (p q : Place) → Begins (section stage) c p q → section_at p ≡ Ok (found_open c p q)
 section_found stage c p q t =
@@ -192,12 +191,12 @@ sections_one n stage p h lt rest go (Ok v) t = sections_next stage p v t (sectio
 sections_one n stage p h lt rest go (Err f) t = sections_here stage p f go t
 
 sections_end : (stage : ℕ) (p : Place) → goes_on stage p ≡ false → Fills (sections stage) [] p
-sections_end zero p go = absurd (let z : ◌≡◌ {A = ℕ} 0 1 = cc in omega arith)
+sections_end zero p go = absurd (cc)
 sections_end (suc last) p go = record { fine = tt; bytes = none_left p.1 (eqb-true _ 0 (flip (eqb (length p.1) 0) (sym (more_left last p) ∙ go))) }
   where
     flip : (b : Bool) → not b ≡ false → b ≡ true
     flip true e = refl
-    flip false e = absurd (let z : ◌≡◌ {A = ℕ} 0 1 = cc in omega arith)
+    flip false e = absurd (cc)
 
 sections_test : (n stage : ℕ) (p : Place) → AllBytes p.1 → length p.1 < suc n → SoundBy n → (b : Bool) → goes_on stage p ≡ b → TellsAll (sections stage) p (cond b (on_section n (one_at stage p)) (Ok []))
 sections_test n stage p h lt rest true go = sections_one n stage p h lt rest go (one_at stage p) ((exact_section stage).sound p h)

@@ -1,2 +1,3 @@
+pub mod Ranks
 pub mod Steps
 pub mod Verdicts

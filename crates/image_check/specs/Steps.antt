@@ -1,13 +1,12 @@
 -- What each function of the check answers, step by step. Assumes nothing.
-use Rattle.std.specs.Prelude.{◌≡◌, ℕ, zero, suc, ◌+◌, ◌*◌, ◌/◌, Bool, cond, not, ◌||◌, List, [], ◌∷◌, length, drop, Ok, Err, Result, ◌==◌, slice_index}
+use Rattle.std.specs.Prelude.{ℕ, zero, suc, ◌+◌, ◌*◌, ◌/◌, Bool, cond, not, ◌||◌, List, [], ◌∷◌, length, drop, Ok, Err, Result, ◌==◌, slice_index}
 use Rattle.image.specs.declared.fault.ByteFault.{ByteFault}
-use Rattle.image.specs.declared.fault.SectionFault.{SectionFault}
-use Rattle.image.specs.declared.fault.SectionFault.TheVariants.{Version, Letter}
+use Rattle.image.specs.declared.fault.SectionFault.TheVariants.{Letter}
 use Rattle.image.specs.declared.fault.RowFault.{RowFault}
 use Rattle.image.specs.declared.fault.RowFault.TheVariants.{Section}
 use Rattle.image.specs.Bytes.{Place, past, u32_of}
 use Rattle.image.specs.Format.{Tree, Content, of_identifiers, of_scope, of_function, of_tree, due, after}
-use Rattle.image.specs.Steps.{Opened, and_then, in_section, in_row, both, u8_at, u32_at, numbers_at, row_at, section_at, closed_at, version_at}
+use Rattle.image.specs.Steps.{Opened, and_then, in_section, in_row, ended, both, u8_at, u32_at, numbers_at, row_at, section_at, closed_at, version_at}
 
 -- identifier rows, as many as there are whole
 abbrev pub identifier_at : Place → Result ((ℕ × ℕ) × Place) ByteFault
@@ -25,6 +24,11 @@ scope_at = both numbers_at (both numbers_at numbers_at)
 
 abbrev pub function_at : Place → Result ((List ℕ × List ℕ) × Place) ByteFault
 function_at = both numbers_at numbers_at
+
+-- where n lists end
+abbrev pub lists_end : ℕ → Place → Result Place ByteFault
+lists_end zero p = Ok p
+lists_end (suc n) p = and_then (ended (numbers_at p)) (lists_end n)
 
 abbrev pub tree_at : Place → Result ((List ℕ × Tree 128) × Place) RowFault
 tree_at = both (λ p. in_row (in_section (numbers_at p))) (row_at 128)

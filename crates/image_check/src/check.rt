@@ -1,96 +1,49 @@
 // A whole image: one I, any S, any F, any T.
-ghost use Rattle.std.specs.Prelude.{◌≡◌, ℕ, ◌+◌, ◌<◌, ◌≤◌, length, IfOk};
-ghost use Rattle.image.specs.Bytes.{Inside, see};
-ghost use Rattle.image.specs.Format.{due};
-ghost use Rattle.image.specs.Steps.{Is, Fresh, held, see_open, see_reader, ended, passed, in_section, numbers_at};
-ghost use Rattle.image_check.specs.Steps.{scope_at, function_at, tree_at, content_at, spent_at, one_at, staged, goes_on, image_at};
+ghost use Rattle.std.specs.Prelude.{◌≡◌, ℕ, ◌+◌, ◌<◌, ◌≤◌, length, IfOk, Some};
+ghost use Rattle.image.specs.Bytes.{see};
+ghost use Rattle.image.specs.Steps.{Is, see_open, see_reader, ended, passed, in_section};
+ghost use Rattle.image_check.specs.Ranks.{rank_number, stage_of};
+ghost use Rattle.image_check.specs.Steps.{lists_end, content_at, spent_at, one_at, staged, goes_on, image_at};
 ghost use Rattle.image_check.specs.Verdicts.{Verdict};
 
-use image::bytes::read_numbers;
+use crate::rank::Rank;
 use image::cursor::Cursor;
 use image::fault::{RowFault, SectionFault};
 use image::row::check_row;
-use image::section::{Open, Reader, Section};
+use image::section::{Open, Reader};
 
-// The place of a section in the order I, S, F, T.
-fn rank<'a>(section: Section<'a>) -> u8
-    ensures { result ≡ (held section.entry).rank }
+// What follows this many lists.
+#[tactic(auto, using(crate::proofs::Lists::lists_next, crate::proofs::Lists::lists_stop))]
+fn past_lists<'a>(cursor: Cursor<'a>, count: u8) -> Result<Cursor<'a>, SectionFault>
+    ensures { Is see result (in_section (lists_end count (see cursor.entry))) }
 {
-    match section {
-        Section::Identifiers(_) => 0,
-        Section::Scope(_) => 1,
-        Section::Function(_) => 2,
-        Section::Tree(_) => 3,
+    let mut rest = cursor;
+    for _ in 0..count {
+        (_, rest) = rest.read_numbers()?;
     }
-}
-
-// The three lists of a scope: what follows them.
-fn check_scope<'a>(cursor: Cursor<'a>) -> Result<Cursor<'a>, SectionFault>
-    requires { Inside (see cursor) }
-    ensures { Is see result (ended (in_section (scope_at (see cursor.entry)))) }
-{
-    let (_, rest) = read_numbers(cursor)?;
-    let (_, rest) = read_numbers(rest)?;
-    let (_, rest) = read_numbers(rest)?;
     Ok(rest)
 }
 
-// The two lists of a function: what follows them.
-fn check_function<'a>(cursor: Cursor<'a>) -> Result<Cursor<'a>, SectionFault>
-    requires { Inside (see cursor) }
-    ensures { Is see result (ended (in_section (function_at (see cursor.entry)))) }
+// How far the content of a section reads: whole identifier rows, the three lists of a scope, the two of a function,
+// or own parameters and row 0.
+#[tactic(auto, using(crate::proofs::Lists::scope_ends, crate::proofs::Lists::function_ends, crate::proofs::Lists::tree_ends))]
+fn check_content<'a>(rank: Rank, content: Cursor<'a>) -> Result<Cursor<'a>, RowFault>
+    ensures { Is see result (ended (content_at (rank_number rank) (see content.entry))) }
 {
-    let (_, rest) = read_numbers(cursor)?;
-    let (_, rest) = read_numbers(rest)?;
-    Ok(rest)
-}
-
-// Own parameters: where row 0 begins.
-fn check_parameters<'a>(cursor: Cursor<'a>) -> Result<Cursor<'a>, SectionFault>
-    requires { Inside (see cursor) }
-    ensures is { Is see result (ended (in_section (numbers_at (see cursor.entry)))) }
-    ensures inside { IfOk result (λ v. Inside (see v)) }
-{
-    let (_, rest) = read_numbers(cursor)?;
-    Ok(rest)
-}
-
-// Own parameters and row 0: what follows them.
-fn check_tree<'a>(cursor: Cursor<'a>) -> Result<Cursor<'a>, RowFault>
-    requires { Inside (see cursor) }
-    ensures { Is see result (ended (tree_at (see cursor.entry))) }
-{
-    let rows = check_parameters(cursor)?;
-    check_row(rows, 128)
-}
-
-// How far the content of a section reads.
-fn check_content<'a>(section: Section<'a>, at: usize) -> Result<Cursor<'a>, RowFault>
-    requires { Inside (at, (held section).bytes) }
-    ensures { Is see result (ended (content_at (held section.entry).rank (at, (held section.entry).bytes))) }
-{
-    match section {
-        Section::Identifiers(bytes) => {
-            let whole = bytes.len() / 5 * 5;
-            Ok(Cursor {
-                rest: &bytes[whole..],
-                at: at + whole,
-            })
-        }
-        Section::Scope(rest) => Ok(check_scope(Cursor { rest, at })?),
-        Section::Function(rest) => Ok(check_function(Cursor { rest, at })?),
-        Section::Tree(rest) => check_tree(Cursor { rest, at }),
+    match rank {
+        Rank::Identifiers => Ok(content.past(content.rest.len() / 5 * 5)),
+        Rank::Scope => Ok(past_lists(content, 3)?),
+        Rank::Function => Ok(past_lists(content, 2)?),
+        Rank::Tree => check_row(past_lists(content, 1)?, 128),
     }
 }
 
 // Reads an open section to its end, and spends it.
-fn check_open<'a>(open: Open<'a>) -> Result<Reader<'a>, RowFault>
-    requires { Fresh (see_open «open») }
-    ensures is { Is see_reader result (ended (spent_at (see_open «open».entry))) }
-    ensures behind { IfOk result (λ v. see_reader v ≡ (see_open «open».entry).behind) }
+fn check_open<'a>(mut part: Open<'a>) -> Result<Reader<'a>, RowFault>
+    ensures is { Is see_reader result (ended (spent_at (see_open part.entry))) }
+    ensures behind { IfOk result (λ v. see_reader v ≡ (see_open part.entry).behind) }
 {
-    let mut part = open;
-    match check_content(part.section(), part.unread().at) {
+    match check_content(Rank::of(part.section()), part.unread()) {
         Ok(rest) => {
             part.read_to(rest);
             Ok(part.close()?)
@@ -102,48 +55,48 @@ fn check_open<'a>(open: Open<'a>) -> Result<Reader<'a>, RowFault>
     }
 }
 
-// Whether a section of this rank may stand next: I where none has come, and later no rank below the last.
-fn is_due(stage: u8, rank: u8) -> bool
-    requires { rank < 4 }
-    ensures { result ≡ due stage rank }
-{
-    if stage == 0 { rank == 0 } else { rank >= stage }
+// The sections of an image that are left to check, and the rank of the last that was checked.
+#[derive(Drop)]
+struct Sections<'a> {
+    reader: Reader<'a>,
+    last: Option<Rank>,
 }
 
-// One section: what may stand next behind it, and the reader behind it.
-fn check_section<'a>(reader: Reader<'a>, stage: u8) -> Result<(u8, Reader<'a>), RowFault>
-    requires { Inside (see_reader reader) }
-    ensures is { Is (λ v. (v.0, see_reader v.1)) result (staged (one_at stage (see_reader reader.entry))) }
-    ensures inside { IfOk result (λ v. Inside (see_reader v.1) × (0 < v.0) × (length (see_reader v.1).1 < length (see_reader reader.entry).1)) }
-{
-    let at = reader.at();
-    let open = reader.open()?;
-    let rank = rank(open.section());
-    if !is_due(stage, rank) {
-        let _ = open.skip();
-        return Err(RowFault::Section(SectionFault::Letter(at + 4)));
+impl<'a> Sections<'a> {
+    // Whether a section is due, or more is there.
+    fn is_more(&self) -> bool
+        ensures { result ≡ goes_on (stage_of self.now.last) (see_reader self.now.reader) }
+    {
+        self.last.is_none() || !self.reader.is_done()
     }
-    let reader = check_open(open)?;
-    Ok((rank.max(1), reader))
-}
 
-// Whether a section is due, or more is there.
-fn is_more<'a>(stage: u8, reader: &Reader<'a>) -> bool
-    ensures { result ≡ goes_on stage (see_reader reader.now) }
-{
-    stage == 0 || !reader.is_done()
+    // Checks one section: those behind it.
+    fn check_next(self) -> Result<Sections<'a>, RowFault>
+        ensures is { Is (λ v. (stage_of v.last, see_reader v.reader)) result (staged (one_at (stage_of self.entry.last) (see_reader self.entry.reader))) }
+        ensures shorter { IfOk result (λ v. length (see_reader v.reader).1 < length (see_reader self.entry.reader).1) }
+    {
+        let Sections { reader, last } = self;
+        let at = reader.at();
+        let part = reader.open()?;
+        let rank = Rank::of(part.section());
+        if !rank.may_follow(last) {
+            let _ = part.skip();
+            return Err(RowFault::Section(SectionFault::Letter(at + 4)));
+        }
+        let reader = check_open(part)?;
+        let last = Some(rank);
+        Ok(Sections { reader, last })
+    }
 }
 
 // Reads the sections of an image to its end.
 fn check_sections(image: &[u8]) -> Result<(), RowFault>
     ensures { Is (λ v. v) result (passed (image_at image.now)) }
 {
-    let mut reader = Reader::new(image)?;
-    let mut stage = 0;
-    while is_more(stage, &reader) {
-        let (next, behind) = check_section(reader, stage)?;
-        stage = next;
-        reader = behind;
+    let reader = Reader::new(image)?;
+    let mut sections = Sections { reader, last: None };
+    while sections.is_more() {
+        sections = sections.check_next()?;
     }
     Ok(())
 }
