@@ -1,5 +1,5 @@
 // A row's fields, with its lists as parts of the image.
-ghost use Rattle.std.specs.Prelude.{◌≡◌, ◌<◌, length, slice_index};
+ghost use Rattle.std.specs.Prelude.{◌≡◌, ◌<◌, [], length, slice_index};
 ghost use Rattle.image.specs.Bytes.{see};
 ghost use Rattle.image.specs.Steps.{Is, fields_at, see_fields, see_numbers};
 
@@ -14,6 +14,13 @@ pub struct Numbers<'a> {
 
 #[tactic(auto, using(crate::proofs::Words::length_words))]
 impl<'a> Numbers<'a> {
+    // No numbers.
+    pub fn none() -> Numbers<'a>
+        ensures { see_numbers result ≡ [] }
+    {
+        Numbers { bytes: &[] }
+    }
+
     // How many there are.
     pub fn len(self) -> usize
         ensures { result ≡ length (see_numbers self.entry) }

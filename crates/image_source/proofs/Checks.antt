@@ -5,7 +5,7 @@ use Rattle.image.specs.declared.fault.ByteFault.{ByteFault}
 use Rattle.image.specs.declared.fault.RowFault.{RowFault}
 use Rattle.image.specs.Bytes.{Place}
 use Rattle.image.specs.Format.{Tree}
-use Rattle.image.specs.Steps.{and_then, in_section, in_row, ended, passed, numbers_at, many_by, many_at, row_at}
+use Rattle.image.specs.Steps.{and_then, in_section, in_row, ended, numbers_at, many_by, many_at, row_at}
 use Rattle.image.proofs.Turns.{ended_ok, more, done}
 use Rattle.image_source.specs.Trees.{tree_rows}
 use Rattle.image_source.specs.Sections.{only_rows, section_rows, rows_read, held_rows}
@@ -34,6 +34,3 @@ module _ (content ns : List ℕ) (p q : Place) (own : numbers_at (0, content) �
   rows_held =
       ap rows_read filled ∙ append-nil (tree_rows 128 0 one.0)
       ∙ sym (ap (λ r. only_rows (on_parameters r)) own ∙ ap (λ r. only_rows (and_then r (λ w. Ok ((ns, w.0), w.1)))) one.1 ∙ cond-true _ _ _ (eq-eqb (length q.1) 0 none))
-
-  pub rows_fill : passed (many_at (row_at 128) p) ≡ Ok tt
-  rows_fill = ap passed filled

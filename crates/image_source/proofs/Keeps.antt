@@ -17,7 +17,7 @@ use Rattle.reactive.specs.Rows.{Row, at_place, head, upcoming, advanced, given, 
 use Rattle.image.specs.declared.cursor.Cursor.{Cursor}
 use Rattle.image.specs.declared.fault.SectionFault.{SectionFault}
 use Rattle.image.specs.declared.fields.RowFields.{RowFields}
-use Rattle.image.specs.Bytes.{Inside, see}
+use Rattle.image.specs.Bytes.{see}
 use Rattle.image.specs.Steps.{see_numbers, see_fields, head_at}
 use Rattle.image_source.specs.declared.standing.Standing.{Standing}
 use Rattle.image_source.specs.declared.state.ImageSource.{ImageSource}
@@ -40,7 +40,7 @@ picked f (Some r) i = refl
 drop_none : {A : Type 0} (k : ℕ) (xs : List A) → drop k xs ≡ [] → (slice_get xs k ≡ None) × (length xs ≤ k)
 drop_none zero [] e = (refl, omega arith)
 drop_none (suc k) [] e = (refl, omega arith)
-drop_none zero (x ∷ xs) e = absurd (let z : ◌≡◌ {A = ℕ} 0 1 = cc in omega arith)
+drop_none zero (x ∷ xs) e = absurd (cc)
 drop_none (suc k) (x ∷ xs) e = let h = drop_none k xs e in (h.0, omega (arith, h.1))
 
 module _ (s : ImageSource) where
@@ -49,9 +49,6 @@ module _ (s : ImageSource) where
 
   pub low : s.at.depth ≤ 128
   low = ∥∥₁_elim s.ok le_prop (λ st. omega (arith, st.most))
-
-  pub readable : Inside (see s.at.left)
-  readable = ∥∥₁_elim s.ok le_prop (λ st. st.inside)
 
   pub restarts : (at : Standing) → see_standing at ≡ starting (see s.rows) → ∥ Stands (see s.rows) (see_standing at) (map (λ x. x.now) s.behind) ∥₁
   restarts at e = ∥∥₁_map s.ok (λ st. starts (see s.rows) (see_standing at) (map (λ x. x.now) s.behind) e st.holder st.fills)

@@ -1,4 +1,3 @@
-pub mod Words
 pub mod Heads
 pub mod Trees
 pub mod Checks

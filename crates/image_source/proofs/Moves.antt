@@ -15,8 +15,8 @@ use Rattle.image_source.proofs.Heads.{parts}
 use Rattle.image_source.proofs.Trees.{Next, next_row, no_rows, few}
 
 drop_front : {A : Type 0} (k : ℕ) (xs : List A) (x : A) (more : List A) → drop k xs ≡ x ∷ more → (slice_get xs k ≡ Some x) × (drop (suc k) xs ≡ more) × (k < length xs)
-drop_front zero [] x more e = absurd (let z : ◌≡◌ {A = ℕ} 0 1 = cc in omega arith)
-drop_front (suc k) [] x more e = absurd (let z : ◌≡◌ {A = ℕ} 0 1 = cc in omega arith)
+drop_front zero [] x more e = absurd (cc)
+drop_front (suc k) [] x more e = absurd (cc)
 drop_front zero (y ∷ ys) x more e = let a : y ≡ x = cc in let b : ys ≡ more = cc in (ap Some a, b, omega arith)
 drop_front (suc k) (y ∷ ys) x more e = let h = drop_front k ys x more e in (h.0, h.1, omega (arith, h.2))
 

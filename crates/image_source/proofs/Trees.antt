@@ -38,13 +38,13 @@ module _ {X : Type 0} (read : Place → Result (X × Place) RowFault) (shrinks :
 
   front_rest : (n : ℕ) (p : Place) (v : X × Place) (r : Result (List X) RowFault) (xs : List X) → read p ≡ Ok v → many_at read v.1 ≡ r → and_then r (λ ys. Ok (v.0 ∷ ys)) ≡ Ok xs → Front read p xs
   front_rest n p v (Ok ys) xs is then e = record { item = v.0; after = v.1; is = is; others = ys; then = then; made = cc }
-  front_rest n p v (Err f) xs is then e = absurd (let z : ◌≡◌ {A = ℕ} 0 1 = cc in omega arith)
+  front_rest n p v (Err f) xs is then e = absurd (cc)
 
   front_first : (n : ℕ) (p : Place) (r : Result (X × Place) RowFault) (xs : List X) → length p.1 ≤ suc n → read p ≡ r → on_first n r ≡ Ok xs → Front read p xs
   front_first n p (Ok v) xs le is e =
       let h = shrinks p v is in
       front_rest n p v (many_by read n v.1) xs is (fuel (length v.1.1) n v.1 (omega arith) (omega arith)) e
-  front_first n p (Err f) xs le is e = absurd (let z : ◌≡◌ {A = ℕ} 0 1 = cc in omega arith)
+  front_first n p (Err f) xs le is e = absurd (cc)
 
   front_by : (n : ℕ) (p : Place) (xs : List X) → length p.1 ≤ n → (length p.1 ≡ 0 → ⊥) → many_by read n p ≡ Ok xs → Front read p xs
   front_by zero p xs le some e = absurd (some (omega arith))
@@ -63,17 +63,17 @@ record RowRead (n : ℕ) (p : Place) (v : Tree (suc n) × Place) : Type 0 where
 
 row_kids : (n : ℕ) (p : Place) (v : Tree (suc n) × Place) (h : Fields × Place × Place) (r : Result (List (Tree n)) RowFault) → head_at p ≡ Ok h → many_at (row_at n) h.1 ≡ r → ◌≡◌ {A = Result (Tree (suc n) × Place) RowFault} (and_then r (λ kids. Ok ((h.0, kids), h.2))) (Ok v) → RowRead n p v
 row_kids n p v h (Ok kids) is reads e = record { head = h; is = is; kids = kids; reads = reads; made = cc }
-row_kids n p v h (Err f) is reads e = absurd (let z : ◌≡◌ {A = ℕ} 0 1 = cc in omega arith)
+row_kids n p v h (Err f) is reads e = absurd (cc)
 
 row_head : (n : ℕ) (p : Place) (v : Tree (suc n) × Place) (r : Result (Fields × Place × Place) SectionFault) → head_at p ≡ r → ◌≡◌ {A = Result (Tree (suc n) × Place) RowFault} (and_then (in_row r) (λ h. and_then (many_at (row_at n) h.1) (λ kids. Ok ((h.0, kids), h.2)))) (Ok v) → RowRead n p v
 row_head n p v (Ok h) is e = row_kids n p v h (many_at (row_at n) h.1) is refl e
-row_head n p v (Err f) is e = absurd (let z : ◌≡◌ {A = ℕ} 0 1 = cc in omega arith)
+row_head n p v (Err f) is e = absurd (cc)
 
 row_read : (n : ℕ) (p : Place) (v : Tree (suc n) × Place) → row_at (suc n) p ≡ Ok v → RowRead n p v
 row_read n p v e = row_head n p v (head_at p) refl e
 
 pub row_shrinks : (n : ℕ) (p : Place) (v : Tree n × Place) → row_at n p ≡ Ok v → length v.1.1 < length p.1
-row_shrinks zero p v e = absurd (let z : ◌≡◌ {A = ℕ} 0 1 = cc in omega arith)
+row_shrinks zero p v e = absurd (cc)
 row_shrinks (suc n) p v e =
     let r = row_read n p v e in
     let s = parts p r.head r.is in

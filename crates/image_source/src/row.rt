@@ -7,7 +7,6 @@ ghost use Rattle.image.specs.Steps.{see_numbers, see_fields};
 ghost use Rattle.image_source.specs.Trees.{identifier_of, number_of, row_of};
 
 use hir::ids::{FunctionId, IdentifierId, ScopeId};
-use image::bytes::u32_of;
 use image::fields::{Numbers, RowFields};
 use reactive::code::Code;
 use reactive::row::{Number, RowHead};
@@ -16,10 +15,9 @@ use reactive::row::{Number, RowHead};
 fn identifier_of(number: u32) -> Option<IdentifierId>
     ensures { result ≡ identifier_of number }
 {
-    if number == u32::MAX {
-        None
-    } else {
-        Some(IdentifierId(number))
+    match number {
+        u32::MAX => None,
+        _ => Some(IdentifierId(number)),
     }
 }
 
@@ -47,8 +45,8 @@ pub fn row_head<'a>(depth: u32, fields: RowFields<'a>) -> RowHead
         number: number_of(fields.code, fields.number),
         kind: fields.kind,
         mode: fields.mode,
-        operands: fields.operands.bytes.len() / 4,
-        marks: fields.marks.bytes.len() / 4,
+        operands: fields.operands.len(),
+        marks: fields.marks.len(),
     }
 }
 
@@ -56,10 +54,8 @@ pub fn row_head<'a>(depth: u32, fields: RowFields<'a>) -> RowHead
 pub fn identifier_at<'a>(list: Numbers<'a>, i: usize) -> Option<IdentifierId>
     ensures { result ≡ slice_get (map ident (see_numbers list.entry)) i }
 {
-    let bytes = list.bytes;
-    if i >= bytes.len() / 4 {
+    if i >= list.len() {
         return None;
     }
-    let k = 4 * i;
-    Some(IdentifierId(u32_of(bytes[k], bytes[k + 1], bytes[k + 2], bytes[k + 3])))
+    Some(IdentifierId(list.at(i)))
 }

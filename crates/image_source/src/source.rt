@@ -1,20 +1,19 @@
 // The source over the bytes of a T section's content: own parameters, then row 0, then nothing.
 ghost use Rattle.std.specs.Prelude.{◌≡◌, length, Ok};
 ghost use Rattle.reactive.specs.Rows.{at_place};
-ghost use Rattle.image.specs.Bytes.{Inside, see};
+ghost use Rattle.image.specs.Bytes.{see};
 ghost use Rattle.image.specs.Steps.{see_numbers, passed, many_at, row_at};
 ghost use Rattle.image_source.specs.Sections.{held_rows, section_rows, section_parameters};
-ghost use Rattle.image_source.specs.Standings.{see_standing, starting};
+ghost use Rattle.image_source.specs.Standings.{see_standing};
 ghost use Rattle.image_source.specs.Sources.{image_reading};
 
 use crate::row::{identifier_at, row_head};
 use crate::standing::Standing;
 pub use crate::state::ImageSource;
 use hir::ids::IdentifierId;
-use image::bytes::read_numbers;
 use image::cursor::Cursor;
 use image::fields::Numbers;
-use image::row::{check_row, read_head};
+use image::row::check_row;
 use reactive::row::RowHead;
 use reactive::source::TreeSource;
 
@@ -22,52 +21,25 @@ use reactive::source::TreeSource;
 pub fn parameters<'a>(content: &'a [u8]) -> Numbers<'a>
     ensures { see_numbers result ≡ section_parameters content.now }
 {
-    match read_numbers(Cursor {
-        rest: content,
-        at: 0,
-    }) {
+    match Cursor::new(content).read_numbers() {
         Ok((numbers, _)) => numbers,
-        Err(_) => Numbers {
-            bytes: &content[0..0],
-        },
+        Err(_) => Numbers::none(),
     }
 }
 
 // Where row 0 stands: at no bytes, where the check refuses the content.
+// No Option: no bytes hold no rows, so that nothing ever asks which of the two it is.
 fn checked_rows<'a>(content: &'a [u8]) -> Cursor<'a>
     ensures rows { held_rows (see result) ≡ section_rows content.now }
     ensures fills { passed (many_at (row_at 128) (see result)) ≡ Ok tt }
-    ensures inside { Inside (see result) }
 {
-    let none = Cursor {
-        rest: &content[0..0],
-        at: 0,
-    };
-    let Ok((_, rows)) = read_numbers(Cursor {
-        rest: content,
-        at: 0,
-    }) else {
+    let none = Cursor::new(&[]);
+    let Ok((_, rows)) = Cursor::new(content).read_numbers() else {
         return none;
     };
     match check_row(rows, 128) {
         Ok(behind) if behind.rest.is_empty() => rows,
         _ => none,
-    }
-}
-
-// Before the first row.
-fn start<'a>(rows: Cursor<'a>) -> Standing<'a>
-    ensures { see_standing result ≡ starting (see rows.entry) }
-{
-    let none = Numbers {
-        bytes: &rows.rest[0..0],
-    };
-    Standing {
-        left: rows,
-        depth: 0,
-        given: 0,
-        operands: none,
-        marks: none,
     }
 }
 
@@ -79,7 +51,7 @@ impl<'a> ImageSource<'a> {
         let rows = checked_rows(content);
         ImageSource {
             rows,
-            at: start(rows),
+            at: Standing::new(rows),
             behind: [rows.rest; 128],
         }
     }
@@ -112,14 +84,15 @@ impl<'a> TreeSource for ImageSource<'a> {
     ghost reading = { image_reading };
 
     fn rewind(&mut self) {
-        self.at = start(self.rows);
+        self.at = Standing::new(self.rows);
     }
 
+    #[tactic(auto, using(crate::proofs::Keeps::low))]
     fn next(&mut self) -> Option<RowHead> {
         self.close_ended();
         let at = self.at;
         // The check has read every row, so that only an empty holder fails here.
-        let Ok((fields, children, after)) = read_head(at.left) else {
+        let Ok((fields, children, after)) = at.left.read_head() else {
             return None;
         };
         self.behind[at.depth as usize] = after.rest;
@@ -133,10 +106,12 @@ impl<'a> TreeSource for ImageSource<'a> {
         Some(row_head(at.depth, fields))
     }
 
+    #[tactic(auto, using(crate::proofs::Keeps::operand_is))]
     fn operand(&self, i: usize) -> Option<IdentifierId> {
         identifier_at(self.at.operands, i)
     }
 
+    #[tactic(auto, using(crate::proofs::Keeps::mark_is))]
     fn mark(&self, i: usize) -> Option<IdentifierId> {
         identifier_at(self.at.marks, i)
     }

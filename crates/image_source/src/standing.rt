@@ -1,4 +1,8 @@
 // How far a source has given its rows.
+ghost use Rattle.std.specs.Prelude.{◌≡◌};
+ghost use Rattle.image.specs.Bytes.{see};
+ghost use Rattle.image_source.specs.Standings.{see_standing, starting};
+
 use image::cursor::Cursor;
 use image::fields::Numbers;
 
@@ -10,4 +14,19 @@ pub struct Standing<'a> {
     pub given: usize,
     pub operands: Numbers<'a>,
     pub marks: Numbers<'a>,
+}
+
+impl<'a> Standing<'a> {
+    // Before the first row.
+    pub fn new(rows: Cursor<'a>) -> Standing<'a>
+        ensures { see_standing result ≡ starting (see rows.entry) }
+    {
+        Standing {
+            left: rows,
+            depth: 0,
+            given: 0,
+            operands: Numbers::none(),
+            marks: Numbers::none(),
+        }
+    }
 }

@@ -1,10 +1,7 @@
-use Rattle.std.proofs.Common.{◌≡◌, ◌+◌, ◌^◌, ◌<◌, ◌≤◌, length, Some, ap, ◌∙◌, arith, rules}
+use Rattle.std.proofs.Common.{◌≡◌, ◌+◌, ◌^◌, ◌<◌, length, Some, ap, ◌∙◌, arith, rules}
 use Rattle.reactive.specs.Rows.{upcoming, advanced}
-use Rattle.image_source.proofs.Keeps.{low, readable, over_value, over_after, room, fits, next_value, next_after, keeps_written, keeps_opened}
+use Rattle.image_source.proofs.Keeps.{over_value, over_after, room, fits, next_value, next_after, keeps_written, keeps_opened}
 use Rattle.image_source.proofs.source.ImageSourceTreeSource.next.Goals as goal
-
-pub read_head-requires : goal.read_head-requires
-read_head-requires c = readable c.close_ended.new.self
 
 pub returns-in_default : goal.returns-in_default
 returns-in_default c =
@@ -13,16 +10,6 @@ returns-in_default c =
     let same = c.close_ended.ensures.same in
     let is = c.in_default.ensures.is in
     record { value = over_value s closed _ is ∙ ap upcoming same; after = over_after s closed _ is ∙ ap advanced same }
-
-pub overflow_cast-at : goal.overflow_cast-at
-overflow_cast-at c =
-    let few : c.close_ended.new.self.at.depth ≤ 128 = low c.close_ended.new.self in
-    search rules
-
-pub offset_bounds-self-at : goal.offset_bounds-self-at
-offset_bounds-self-at c =
-    let few : c.close_ended.new.self.at.depth ≤ 128 = low c.close_ended.new.self in
-    search rules
 
 pub bounds-self-at : goal.bounds-self-at
 bounds-self-at c =
@@ -35,11 +22,6 @@ invariant_of-self c =
     let s = c.close_ended.new.self in
     let size : length s.behind ≡ 128 = omega arith in
     (keeps_written s size c.in-Ok.fields c.in-Ok.children c.in-Ok.after c.in-Ok.ensures.is, tt)
-
-pub overflow_add-self : goal.overflow_add-self
-overflow_add-self c =
-    let few : c.close_ended.new.self.at.depth ≤ 128 = low c.close_ended.new.self in
-    search rules
 
 pub overflow_add-self-2 : goal.overflow_add-self-2
 overflow_add-self-2 c =

@@ -1,16 +1,11 @@
 use Rattle.std.proofs.Common.{◌-◌, [], map, subst, arith, true-eqb}
-use mathlib.Core.Logic.{∥∥₁_map}
+use mathlib.Core.Logic.{∥∥₁_elim, ∥∥₁_map}
+use native.Mathlib.Bridge.{le_prop}
 use lib.ListN.{get_or-map}
 use Rattle.image.specs.Bytes.{see}
 use Rattle.image_source.specs.Standings.{Stands, see_standing, closed_to}
 use Rattle.image_source.proofs.Moves.{closes}
-use Rattle.image_source.proofs.Keeps.{low}
 use Rattle.image_source.proofs.state.ImageSource.close_ended.Goals as goal
-
-pub loop-rest-init : goal.loop-rest-init
-loop-rest-init c =
-    let s = c.args.self.now in
-    (low s, s.ok)
 
 pub loop-rest-preserved : goal.loop-rest-preserved
 loop-rest-preserved c =
@@ -22,4 +17,4 @@ loop-rest-preserved c =
     )
 
 pub invariant_of-self : goal.invariant_of-self
-invariant_of-self c = record { ok = c.loop-rest.invariant.1 }
+invariant_of-self c = record { inside = ∥∥₁_elim c.loop-rest.invariant.1 le_prop (λ st. st.inside) }

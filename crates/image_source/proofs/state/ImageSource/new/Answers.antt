@@ -6,4 +6,4 @@ use Rattle.image_source.proofs.state.ImageSource.new.Goals as goal
 pub invariant_of-result : goal.invariant_of-result
 invariant_of-result c =
     let rows = c.checked_rows-rows in
-    record { ok = ∣ starts (see rows.result) (see_standing c.start.result) _ c.start.ensures rows.ensures.inside rows.ensures.fills ∣₁ }
+    record { ok = ∣ starts (see rows.result) (see_standing c.new.result) _ c.new.ensures rows.result.inside rows.ensures.fills ∣₁ }
