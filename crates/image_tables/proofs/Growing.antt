@@ -97,7 +97,7 @@ module _ (h : Held) (t u : Tables) (a : AddedSection h t u) (cs : List Content) 
 
 lifted_ok : {X : Type 0} (r : Result X ByteFault) (v : X) → in_row (in_section r) ≡ Ok v → r ≡ Ok v
 lifted_ok (Ok x) v e = cc
-lifted_ok (Err f) v e = absurd (let z : ◌≡◌ {A = ℕ} 0 1 = cc in omega arith)
+lifted_ok (Err f) v e = absurd (cc)
 
 -- a value that fills its bytes is read from them
 whole_read : {X : Type 0} (L : Layout X) (a : Place → Result (X × Place) ByteFault) → Exact L (lifted a) → (x : X) (bs : List ℕ) → L.Fine x → bs ≡ L.write x → a (0, bs) ≡ Ok (x, (0 + length (L.write x), []))
@@ -108,7 +108,7 @@ same_value {X} r x y p q e f = let v : ◌≡◌ {A = X × Place} (x, p) (y, q) 
 
 cond_ok : (b : Bool) (is js : List (ℕ × ℕ)) (f : RowFault) → cond {A = Result Content RowFault} b (Ok (of_identifiers is)) (Err f) ≡ Ok (of_identifiers js) → is ≡ js
 cond_ok true is js f e = cc
-cond_ok false is js f e = absurd (let z : ◌≡◌ {A = ℕ} 0 1 = cc in omega arith)
+cond_ok false is js f e = absurd (cc)
 
 rows_read : (is : List (ℕ × ℕ)) (bs : List ℕ) → FineContent (of_identifiers is) → bs ≡ content_bytes (of_identifiers is) → identifiers_of (length bs / 5) bs ≡ is
 rows_read is bs fine e = cond_ok (eqb (length (drop (length bs / 5 * 5) bs)) 0) _ is (left (0 + length bs / 5 * 5)) (content_finds (of_identifiers is) (0, bs) fine e)

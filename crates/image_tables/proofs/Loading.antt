@@ -1,7 +1,7 @@
 -- How far the sections of an image are loaded. Assumes nothing.
 use Rattle.std.proofs.Common.{◌≡◌, ℕ, ◌+◌, ◌*◌, ◌^◌, ◌<◌, ◌≤◌, List, [], ◌∷◌, ◌++◌, length, Ok, Err, vec_items, sym, refl, ap, ◌∙◌, subst, append_assoc, append-nil, arith, length-append}
 use Rattle.image.specs.declared.fault.SectionFault.{SectionFault}
-use Rattle.image.specs.Bytes.{Place, Inside, joined}
+use Rattle.image.specs.Bytes.{Place, joined}
 use Rattle.image.specs.Layouts.{Begins}
 use Rattle.image.specs.Format.{Content, rank_of, content_bytes, after, section, section_bytes, InOrder, image_bytes, Image}
 use Rattle.image.specs.Steps.{Held, Opened, section_at, version_at}
@@ -21,15 +21,14 @@ pub record Loading (bs : List ℕ) (q : Place) (t : Tables) : Type 0 where
   pub left : q.1 ≡ joined section_bytes rest
   pub holds : Holds loaded t
   pub room : 4 * length (vec_items t.pool) + length q.1 ≤ length bs
-  pub inside : Inside q
 
 version_left : (cs : List Content) (q : Place) → version_at (image_bytes cs) ≡ Ok q → q.1 ≡ joined section_bytes cs
 version_left cs q e =
     let v : ◌≡◌ {A = Place} (1, joined section_bytes cs) q = cc (version_there 1 (joined section_bytes cs)) in
     ap (λ (p : Place). p.1) (sym v)
 
-pub begin : (bs : List ℕ) (q : Place) (t : Tables) → Image bs → version_at bs ≡ Ok q → Inside q → length q.1 < length bs → Holds [] t → length (vec_items t.pool) ≡ 0 → Loading bs q t
-begin bs q t i e inside less h none = record {
+pub begin : (bs : List ℕ) (q : Place) (t : Tables) → Image bs → version_at bs ≡ Ok q → length q.1 < length bs → Holds [] t → length (vec_items t.pool) ≡ 0 → Loading bs q t
+begin bs q t i e less h none = record {
   loaded = [];
   rest = i.contents;
   stage = 0;
@@ -39,7 +38,6 @@ begin bs q t i e inside less h none = record {
   left = version_left i.contents q (sym (ap version_at i.bytes) ∙ e);
   holds = h;
   room = omega arith;
-  inside = inside;
 }
 
 -- a checked image has its version
@@ -113,8 +111,8 @@ module _ (bs : List ℕ) (q : Place) (t : Tables) (l : Loading bs q t) where
       pub shorter : length o.behind.1 < length q.1
       shorter = omega (arith, section_size)
 
-      pub turn : (u : Tables) → AddedSection h t u → Inside o.behind → Loading bs o.behind u
-      turn u a inside =
+      pub turn : (u : Tables) → AddedSection h t u → Loading bs o.behind u
+      turn u a =
           let one = one_more l.loaded up.c h t u l.holds up.begins.fine.0.0 rank_is bytes_is a in
           let cs : l.loaded ++ l.rest ≡ (l.loaded ++ (up.c ∷ [])) ++ up.more = ap (λ r. l.loaded ++ r) up.is ∙ sym (append_assoc l.loaded (up.c ∷ []) up.more) in
           record {
@@ -127,5 +125,4 @@ module _ (bs : List ℕ) (q : Place) (t : Tables) (l : Loading bs q t) where
             left = ap (λ (p : Place). p.1) found.behind ∙ up.left;
             holds = one.holds;
             room = omega (arith, one.room, section_size, l.room);
-            inside = inside;
           }

@@ -1,9 +1,8 @@
 // Tables filled from an image, section by section.
-ghost use Rattle.std.specs.Prelude.{◌≡◌, ℕ, ◌+◌, ◌*◌, ◌^◌, ◌<◌, ◌≤◌, true, List, [], length, is_ok, IfOk, IfErr, vec_len, OnOk};
+ghost use Rattle.std.specs.Prelude.{◌≡◌, ℕ, ◌+◌, ◌*◌, ◌^◌, ◌<◌, ◌≤◌, true, List, [], length, is_ok, IfOk, vec_len, OnOk};
 ghost use Rattle.image.specs.Bytes.{see};
 ghost use Rattle.image.specs.Steps.{numbers_at, held};
 ghost use Rattle.image_check.specs.Steps.{scope_at, function_at};
-ghost use Rattle.image_tables.specs.declared.fault.LoadFault.TheVariants.{Memory};
 ghost use Rattle.image_tables.specs.Tables.{AddedScope, AddedFunction, AddedPanel, SectionReads, AddedSection, Holds, Loaded};
 
 use crate::fault::LoadFault;
@@ -13,25 +12,18 @@ use hir::tables::{Function, Scope};
 use image::cursor::Cursor;
 use image::section::{Reader, Section};
 use image_check::check::check_image;
-use std::alloc::Global;
+use std::alloc::{AllocError, Global};
 
 // An image has fewer bytes, so that a number of the pool has a place of 32 bits.
 const MOST_BYTES: usize = 1 << 32;
 
 // The scope of a section that was checked; its lists go behind the pool's.
-fn add_scope(pool: &mut Vec<u32>, content: &[u8]) -> Result<Scope, LoadFault>
+fn add_scope(pool: &mut Vec<u32>, content: &[u8]) -> Result<Scope, AllocError>
     requires reads { is_ok (scope_at (0, content.now)) ≡ true }
     requires room { 4 * vec_len pool.old + length content.now < 2 ^ 32 }
-    ensures added { IfOk result (λ s. AddedScope pool.old.items content.now s pool.new.items) }
-    ensures fault { IfErr result (λ e. e ≡ Memory) }
+    ensures { IfOk result (λ s. AddedScope pool.old.items content.now s pool.new.items) }
 {
-    let (dependencies, rest) = add_list(
-        pool,
-        Cursor {
-            rest: content,
-            at: 0,
-        },
-    )?;
+    let (dependencies, rest) = add_list(pool, Cursor::new(content))?;
     let (declarations, rest) = add_list(pool, rest)?;
     let (reassignments, _) = add_list(pool, rest)?;
     Ok(Scope {
@@ -42,37 +34,23 @@ fn add_scope(pool: &mut Vec<u32>, content: &[u8]) -> Result<Scope, LoadFault>
 }
 
 // The function of a section that was checked; its lists go behind the pool's.
-fn add_function(pool: &mut Vec<u32>, content: &[u8]) -> Result<Function, LoadFault>
+fn add_function(pool: &mut Vec<u32>, content: &[u8]) -> Result<Function, AllocError>
     requires reads { is_ok (function_at (0, content.now)) ≡ true }
     requires room { 4 * vec_len pool.old + length content.now < 2 ^ 32 }
-    ensures added { IfOk result (λ f. AddedFunction pool.old.items content.now f pool.new.items) }
-    ensures fault { IfErr result (λ e. e ≡ Memory) }
+    ensures { IfOk result (λ f. AddedFunction pool.old.items content.now f pool.new.items) }
 {
-    let (parameters, rest) = add_list(
-        pool,
-        Cursor {
-            rest: content,
-            at: 0,
-        },
-    )?;
+    let (parameters, rest) = add_list(pool, Cursor::new(content))?;
     let (nested, _) = add_list(pool, rest)?;
     Ok(Function { parameters, nested })
 }
 
 // The panel of a section that was checked; its own parameters go behind the pool's numbers.
-fn add_panel<'a>(pool: &mut Vec<u32>, content: &'a [u8]) -> Result<Panel<'a>, LoadFault>
+fn add_panel<'a>(pool: &mut Vec<u32>, content: &'a [u8]) -> Result<Panel<'a>, AllocError>
     requires reads { is_ok (numbers_at (0, content.now)) ≡ true }
     requires room { 4 * vec_len pool.old + length content.now < 2 ^ 32 }
-    ensures added { IfOk result (λ p. AddedPanel pool.old.items content.now p pool.new.items) }
-    ensures fault { IfErr result (λ e. e ≡ Memory) }
+    ensures { IfOk result (λ p. AddedPanel pool.old.items content.now p pool.new.items) }
 {
-    let (parameters, _) = add_list(
-        pool,
-        Cursor {
-            rest: content,
-            at: 0,
-        },
-    )?;
+    let (parameters, _) = add_list(pool, Cursor::new(content))?;
     Ok(Panel {
         parameters,
         content,
@@ -80,11 +58,10 @@ fn add_panel<'a>(pool: &mut Vec<u32>, content: &'a [u8]) -> Result<Panel<'a>, Lo
 }
 
 // Puts what a section holds, which was checked, behind what the tables hold.
-fn add_section<'a>(tables: &mut Tables<'a>, section: Section<'a>) -> Result<(), LoadFault>
+fn add_section<'a>(tables: &mut Tables<'a>, section: Section<'a>) -> Result<(), AllocError>
     requires reads { SectionReads (held section) }
     requires room { 4 * vec_len tables.old.pool + length (held section).bytes < 2 ^ 32 }
-    ensures added { OnOk result (AddedSection (held section.entry) tables.old tables.new) }
-    ensures fault { IfErr result (λ e. e ≡ Memory) }
+    ensures { OnOk result (AddedSection (held section.entry) tables.old tables.new) }
 {
     match section {
         Section::Identifiers(content) => add_identifiers(&mut tables.identifiers, content)?,

@@ -1,16 +1,23 @@
-use Rattle.std.proofs.Common.{◌-◌, ◌/◌, ◌≤◌, ◌++◌, map, length, get_or, take, drop, vec_items, ap, ◌∙◌, rules}
+use Rattle.std.proofs.Common.{◌/◌, ◌<◌, ◌++◌, [], ◌∷◌, length, get_or, map, vec_items, sym, ap, ◌∙◌, append_assoc, add-one, arith}
+use Rattle.std.proofs.lemmas.List.{map-append}
 use Rattle.hir.specs.declared.tables.Identifier.{Identifier}
+use Rattle.image.specs.Bytes.{u32_of}
 use Rattle.image_check.specs.Steps.{identifiers_of}
 use Rattle.image_tables.specs.Tables.{identifier_row}
-use Rattle.image_tables.proofs.Chunks.{rows_next, put, map_put}
+use Rattle.image_tables.proofs.Chunks.{rows_more}
 use Rattle.image_tables.proofs.lists.add_identifiers.Goals as goal
 
-pub loop-bytes-preserved : goal.loop-bytes-preserved
-loop-bytes-preserved c =
-    let bs = c.loop-bytes.bytes.now in
-    let rest = take (length bs - 5) (drop 5 bs) in
-    let le : 5 ≤ length bs = search rules in
-    let x : Identifier = record { declaration = record { 0 = c.u32_of.result }; tag = get_or bs 4 0 } in
-    ap (λ t. map identifier_row t ++ identifiers_of (length rest / 5) rest) c.in_ok-push.ensures.items
-    ∙ ap (λ t. t ++ identifiers_of (length rest / 5) rest) (map_put identifier_row (vec_items c.loop-bytes.identifiers) x)
-    ∙ put (map identifier_row (vec_items c.loop-bytes.identifiers)) (identifiers_of (length bs / 5) bs) _ _ (identifier_row x) c.loop-bytes.invariant (rows_next bs c.u32_of.result le c.u32_of.ensures)
+pub loop-a-preserved : goal.loop-a-preserved
+loop-a-preserved c =
+    let bs = c.args.content.now in
+    let i = c.loop-a.a-index in
+    let front = c.as_chunks.ensures.front in
+    let lt : i < length bs / 5 = omega (arith, c.as_chunks.ensures.front_len) in
+    let x : Identifier = record { declaration = record { 0 = c.u32_of.result }; tag = get_or (get_or c.as_chunks.result.0.now i []) 4 0 } in
+    let value = c.u32_of.ensures ∙ ap (λ ws. u32_of (get_or ws i [])) front in
+    let tag = ap (λ ws. get_or (get_or ws i []) 4 0) front in
+    ap (map identifier_row) c.in_ok-push.ensures.items
+    ∙ map-append identifier_row (vec_items c.loop-a.identifiers) (x ∷ [])
+    ∙ ap (λ s. s ++ (identifier_row x ∷ [])) c.loop-a.invariant
+    ∙ append_assoc _ (identifiers_of i bs) (identifier_row x ∷ [])
+    ∙ ap (λ s. map identifier_row (vec_items c.args.identifiers.now) ++ s) ((λ j. identifiers_of i bs ++ ((value j, tag j) ∷ [])) ∙ sym (ap (λ k. identifiers_of k bs) (add-one i) ∙ rows_more (length bs / 5) i bs lt))

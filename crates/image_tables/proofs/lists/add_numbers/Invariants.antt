@@ -1,9 +1,6 @@
-use Rattle.std.proofs.Common.{◌≡◌, ◌++◌, length, vec_items}
-use Rattle.image.specs.Bytes.{words}
+use Rattle.std.proofs.Common.{◌≡◌, ◌++◌, take, vec_items}
+use Rattle.image.specs.Steps.{see_numbers}
 use Rattle.image_tables.proofs.lists.add_numbers.Given as goal
 
-abbrev pub invariant-loop-bytes : goal.invariant-loop-bytes
-invariant-loop-bytes l = vec_items l.pool ++ words l.bytes ≡ vec_items l.initial.pool ++ words l.initial.bytes
-
-abbrev pub decreases-loop-bytes : goal.decreases-loop-bytes
-decreases-loop-bytes l = length l.bytes
+abbrev pub invariant-loop-i : goal.invariant-loop-i
+invariant-loop-i l = vec_items l.pool ≡ vec_items l.initial.pool ++ take l.i (see_numbers l.list)

@@ -30,7 +30,7 @@ loop-reader-preserved c =
     let o = see_open c.in_ok-open.open in
     let h = held c.section-section.result in
     subst (λ (p : Place). Loading bs p c.add_section.new.tables) (sym c.skip-reader.ensures)
-    (turn bs q t c.loop-reader.invariant some o h c.in_ok-open.ensures.is c.section-section.ensures c.add_section.new.tables c.in_ok-add_section.ensures.added c.in_ok-open.ensures.inside.0.behind)
+    (turn bs q t c.loop-reader.invariant some o h c.in_ok-open.ensures.is c.section-section.ensures c.add_section.new.tables c.in_ok-add_section.ensures)
 
 pub returns : goal.returns
 returns c = (omega arith, end c.args.image.now (see_reader c.loop-reader.reader) c.loop-reader.tables c.loop-reader.invariant (true-eqb _ 0 c.loop-reader-test.ensures))
