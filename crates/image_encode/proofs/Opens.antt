@@ -1,11 +1,7 @@
 -- Rows while they are written, and the trees that they become. Assumes nothing.
-use Rattle.std.proofs.Common.{◌≡◌, ℕ, suc, List, [], ◌∷◌, map, length, refl, ap, ◌∙◌, arith, length-append}
+use Rattle.std.proofs.Common.{◌≡◌, ℕ, suc, List, [], ◌∷◌, length, ap, ◌∙◌, arith, length-append}
 use Rattle.image_encode.specs.Opens.{Closed}
 
 -- closing leaves one row fewer around
 pub fewer : (top : List ℕ) (below : List (List ℕ)) (top' : List ℕ) (below' : List (List ℕ)) → Closed top below top' below' → length below ≡ suc (length below')
 fewer top below top' below' k = let e = ap length k.around ∙ length-append below' (k.parent ∷ []) in omega arith
-
-pub length_map : {A B : Type 0} (f : A → B) (xs : List A) → length (map f xs) ≡ length xs
-length_map f [] = refl
-length_map f (x ∷ xs) = ap suc (length_map f xs)

@@ -1,5 +1,5 @@
 -- Bytes written one element at a time. Assumes nothing.
-use Rattle.std.proofs.Common.{◌≡◌, ℕ, zero, suc, ◌+◌, ◌<◌, ◌≤◌, List, [], ◌∷◌, ◌++◌, map, length, get_or, drop, Some, None, sym, refl, ap, ◌∙◌, append_assoc, append-nil, add-one, arith, drop-cons}
+use Rattle.std.proofs.Common.{◌≡◌, ℕ, zero, suc, ◌+◌, ◌<◌, ◌≤◌, List, [], ◌∷◌, ◌++◌, map, length, get_or, drop, Some, sym, ap, ◌∙◌, append_assoc, append-nil, add-one, drop-cons}
 use Rattle.std.proofs.lemmas.List.{drop_all}
 use Rattle.std.specs.List.{slice_get}
 use Rattle.hir.specs.declared.ids.IdentifierId.{IdentifierId}
@@ -21,19 +21,10 @@ module _ {X : Type 0} (write : X → List ℕ) where
 
 -- items of a row's list
 
-pub nth_there : (l : List IdentifierId) (i : ℕ) → i < length l → None ≡ slice_get l i → ⊥
-nth_there [] i lt e = omega arith
-nth_there (x ∷ l) zero lt e = let z : ◌≡◌ {A = ℕ} 0 1 = cc in omega arith
-nth_there (x ∷ l) (suc i) lt e = nth_there l i (omega arith) e
-
 pub nth_plain : (l : List IdentifierId) (i : ℕ) (id : IdentifierId) → Some id ≡ slice_get l i → id.0 ≡ get_or (map plain l) i 0
-nth_plain [] i id e = absurd (let z : ◌≡◌ {A = ℕ} 0 1 = cc in omega arith)
+nth_plain [] i id e = absurd (cc)
 nth_plain (x ∷ l) zero id e = let s : id ≡ x = cc in ap plain s
 nth_plain (x ∷ l) (suc i) id e = nth_plain l i id e
-
-pub length_plain : (l : List IdentifierId) → length (map plain l) ≡ length l
-length_plain [] = refl
-length_plain (x ∷ l) = ap suc (length_plain l)
 
 -- one piece behind another
 pub before : (o o' z x y : List ℕ) → o' ≡ o ++ x → z ≡ o' ++ y → z ≡ o ++ (x ++ y)

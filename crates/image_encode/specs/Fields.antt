@@ -1,13 +1,11 @@
 -- The fields that stand for a row. Assumes nothing.
-use Rattle.std.specs.Prelude.{ℕ, ◌^◌, ◌≤◌, Bool, true, not, ◌&&◌, ◌||◌, ◌⊎◌, List, map, length, Some, None, Option, ◌==◌}
+use Rattle.std.specs.Prelude.{ℕ, ◌^◌, ◌≤◌, Bool, true, not, ◌&&◌, ◌||◌, ◌⊎◌, map, length, Some, None, Option, ◌==◌}
 use Rattle.hir.specs.declared.ids.IdentifierId.{IdentifierId}
 use Rattle.reactive.specs.declared.row.Number.{Number}
 use Rattle.reactive.specs.declared.row.Number.TheVariants as numbers
 use Rattle.reactive.specs.Rows.{Row}
 use Rattle.image.specs.Format.{Fields}
 use Rattle.image_source.specs.Trees.{absent}
-use Rattle.image_encode.specs.declared.row.RowList.{RowList}
-use Rattle.image_encode.specs.declared.row.RowList.TheVariants.{Operands, Marks}
 
 abbrev pub plain : IdentifierId → ℕ
 plain i = i.0
@@ -41,11 +39,6 @@ number_fits code (Some (numbers.Function f)) = not (has_scope code) && not (f.0 
 -- the identifier and the number can be told by four bytes each
 abbrev pub fits_in : ℕ → Option IdentifierId → Option Number → Bool
 fits_in code i n = identifier_fits i && number_fits code n
-
--- one of the two lists of a row
-abbrev pub list_in : RowList → Row → List IdentifierId
-list_in Operands r = r.operands
-list_in Marks r = r.marks
 
 -- a list of the row has more numbers than four bytes can count
 abbrev pub LongList : Row → Type 0

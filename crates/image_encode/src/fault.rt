@@ -1,14 +1,24 @@
 // Why no image is made.
 ghost use Rattle.std.specs.Prelude.{◌≡◌};
-ghost use Rattle.image_encode.specs.declared.fault.EncodeFault.TheVariants.{Memory};
+ghost use Rattle.image_encode.specs.declared.fault.EncodeFault.TheVariants.{Unfit, Memory};
 
 use std::alloc::{AllocError, AllocFailed};
+use std::num::TryFromIntError;
 
 // No image holds these tables and rows, or want of memory.
 #[derive(Clone, Copy)]
 pub enum EncodeFault {
     Unfit,
     Memory,
+}
+
+// A count that four bytes do not hold.
+impl From<TryFromIntError> for EncodeFault {
+    ghost from_gives = { λ _ r. r ≡ Unfit };
+
+    fn from(error: TryFromIntError) -> EncodeFault {
+        EncodeFault::Unfit
+    }
 }
 
 impl From<AllocError> for EncodeFault {

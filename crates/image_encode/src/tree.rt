@@ -1,47 +1,57 @@
 // The rows of a source as one row within which the others lie.
-ghost use Rattle.std.specs.Prelude.{◌≡◌, ℕ, ◌^◌, ◌<◌, ◌≤◌, min, map, length, IfOk, IfErr, vec_items, vec_len};
+ghost use Rattle.std.specs.Prelude.{◌≡◌, ℕ, ◌^◌, ◌<◌, ◌≤◌, min, map, length, IfErr, vec_items, vec_len, OnOk};
 ghost use Rattle.image_encode.specs.declared.fault.EncodeFault.TheVariants.{Unfit};
 ghost use Rattle.image_encode.specs.Opens.{Closed, ClosedTo, TooLong, fits_at};
 
 use crate::bytes::write_u32;
 use crate::fault::EncodeFault;
-use crate::row::{fits, write_fields};
+use crate::row::fits;
 use reactive::row::RowHead;
-use reactive::source::TreeSource;
-use std::alloc::Global;
 
-// Closes the innermost open row, whose bytes are `top`: behind its length they go behind what the row around it has.
-fn close(top: Vec<u8>, below: &mut Vec<Vec<u8>>) -> Result<Vec<u8>, EncodeFault>
-    requires { 0 < vec_len below.old }
-    ensures closed { IfOk result (λ parent. Closed top.items (map vec_items below.old.items) parent.items (map vec_items below.new.items)) }
-    ensures fault { IfErr result (λ e. (e ≡ Unfit → 2 ^ 32 ≤ length top.items)) }
-{
-    let Ok(size) = u32::try_from(top.len()) else {
-        return Err(EncodeFault::Unfit);
-    };
-    let Some(mut parent) = below.pop() else {
-        unreachable()
-    };
-    write_u32(&mut parent, size)?;
-    parent.extend_from_slice(top.as_slice())?;
-    Ok(parent)
+// What is written so far of the open rows: of the innermost, and of those around it.
+#[derive(Drop)]
+struct OpenRows {
+    top: Vec<u8>,
+    around: Vec<Vec<u8>>,
 }
 
-// Closes open rows until at most `depth` are around the innermost.
-fn close_to(top: Vec<u8>, below: &mut Vec<Vec<u8>>, depth: usize) -> Result<Vec<u8>, EncodeFault>
-    ensures closed { IfOk result (λ t. ClosedTo top.items (map vec_items below.old.items) t.items (map vec_items below.new.items) × (vec_len below.new ≡ min (vec_len below.old) depth)) }
-    ensures fault { IfErr result (λ e. (e ≡ Unfit → TooLong top.items (map vec_items below.old.items))) }
-{
-    let mut inner = top;
-    while below.len() > depth {
-        inner = close(inner, below)?;
+impl OpenRows {
+    // Closes the innermost: behind its length its bytes go behind what the row around it has.
+    fn close(&mut self) -> Result<(), EncodeFault>
+        requires { 0 < vec_len self.old.around }
+        ensures closed { OnOk result (Closed self.old.top.items (map vec_items self.old.around.items) self.new.top.items (map vec_items self.new.around.items)) }
+        ensures fault { IfErr result (λ e. (e ≡ Unfit → 2 ^ 32 ≤ length self.old.top.items)) }
+    {
+        let size = u32::try_from(self.top.len())?;
+        let Some(mut parent) = self.around.pop() else {
+            unreachable!()
+        };
+        write_u32(&mut parent, size)?;
+        parent.extend_from_slice(&self.top)?;
+        self.top = parent;
+        Ok(())
     }
-    Ok(inner)
-}
 
-// Whether a row can stand where `height` rows are open.
-fn fits_at(row: &RowHead, height: usize) -> bool
-    ensures { result ≡ fits_at height row.now }
-{
-    row.depth as usize <= height && row.depth < 128 && (height == 0 || row.depth > 0) && fits(row)
+    // Closes rows until at most `depth` are around the innermost.
+    fn close_to(&mut self, depth: usize) -> Result<(), EncodeFault>
+        ensures closed { OnOk result (ClosedTo self.old.top.items (map vec_items self.old.around.items) self.new.top.items (map vec_items self.new.around.items)) }
+        ensures left { OnOk result (vec_len self.new.around ≡ min (vec_len self.old.around) depth) }
+        ensures fault { IfErr result (λ e. (e ≡ Unfit → TooLong self.old.top.items (map vec_items self.old.around.items))) }
+    {
+        while self.around.len() > depth {
+            self.close()?;
+        }
+        Ok(())
+    }
+
+    // Whether a row can stand within them.
+    fn takes(&self, row: &RowHead) -> bool
+        ensures { result ≡ fits_at (vec_len self.now.around) row.now }
+    {
+        let height = self.around.len();
+        row.depth as usize <= height
+            && row.depth < 128
+            && (height == 0 || row.depth > 0)
+            && fits(row)
+    }
 }
