@@ -1,4 +1,4 @@
-mod Lists
+pub mod Lists
 pub mod Sections
 pub mod Exact
 pub mod Leaves

@@ -28,11 +28,11 @@ module _ {X Y E : Type 0} (b : Place → Result (Y × Place) E) where
   behind (Ok v) = ended_made (b v.1) (λ y. (v.0, y))
   behind (Err f) = refl
 
-two : (p : Place) → ended (function_at p) ≡ lists_end 2 p
-two p = behind numbers_at (numbers_at p) ∙ (λ i. and_then (ended (numbers_at p)) (λ q. sym (last (ended (numbers_at q))) i))
+two_lists : (p : Place) → ended (function_at p) ≡ lists_end 2 p
+two_lists p = behind numbers_at (numbers_at p) ∙ (λ i. and_then (ended (numbers_at p)) (λ q. sym (last (ended (numbers_at q))) i))
 
-three : (p : Place) → ended (scope_at p) ≡ lists_end 3 p
-three p = behind function_at (numbers_at p) ∙ (λ i. and_then (ended (numbers_at p)) (λ q. two q i))
+three_lists : (p : Place) → ended (scope_at p) ≡ lists_end 3 p
+three_lists p = behind function_at (numbers_at p) ∙ (λ i. and_then (ended (numbers_at p)) (λ q. two_lists q i))
 
 -- the same in layer 3, under a case of what a section holds
 in_layers : {X : Type 0} (k : X → Content) (r : Result (X × Place) ByteFault) → ended (wrapped k (in_row (in_section r))) ≡ in_row (in_section (ended r))
@@ -44,10 +44,10 @@ tree_layers (Ok v) = refl
 tree_layers (Err f) = refl
 
 pub scope_ends : (p : Place) → ended (content_at 1 p) ≡ in_row (in_section (lists_end 3 p))
-scope_ends p = in_layers of_scope (scope_at p) ∙ ap (λ r. in_row (in_section r)) (three p)
+scope_ends p = in_layers of_scope (scope_at p) ∙ ap (λ r. in_row (in_section r)) (three_lists p)
 
 pub function_ends : (p : Place) → ended (content_at 2 p) ≡ in_row (in_section (lists_end 2 p))
-function_ends p = in_layers of_function (function_at p) ∙ ap (λ r. in_row (in_section r)) (two p)
+function_ends p = in_layers of_function (function_at p) ∙ ap (λ r. in_row (in_section r)) (two_lists p)
 
 pub tree_ends : (p : Place) → ended (content_at 3 p) ≡ and_then (in_row (in_section (lists_end 1 p))) (λ q. ended (row_at 128 q))
 tree_ends p = ended_made (tree_at p) of_tree ∙ behind (row_at 128) (in_row (in_section (numbers_at p))) ∙ tree_layers (numbers_at p)

@@ -1,3 +1,4 @@
+pub mod Spans
 pub mod Chunks
 pub mod Holding
 pub mod Growing

@@ -41,6 +41,11 @@ pub record AddedList (before : List ℕ) (p : Place) (s : Span) (q : Place) (aft
   pub start : s.start ≡ length before
   pub count : s.count ≡ length list
 
+-- the lists at p, one behind the other, were put behind the pool's numbers, these are their spans, and q follows them
+abbrev pub AddedLists : List ℕ → Place → List Span → Place → List ℕ → Type 0
+AddedLists before p [] q after = (p ≡ q) × (before ≡ after)
+AddedLists before p (s ∷ ss) q after = (r : Place) × (middle : List ℕ) × AddedList before p s r middle × AddedLists middle r ss q after
+
 -- three lists, one behind the other, are a scope's
 pub record AddedScope (before bs : List ℕ) (s : Scope) (after : List ℕ) : Type 0 where
   pub q1 : Place

@@ -1,9 +1,9 @@
 // Lists and identifier rows of an image, behind what is there already.
 ghost use Rattle.std.specs.Prelude.{◌≡◌, ℕ, ◌+◌, ◌*◌, ◌/◌, ◌^◌, ◌<◌, ◌≤◌, true, ◌++◌, map, length, is_ok, IfOk, vec_len, OnOk};
-ghost use Rattle.image.specs.Bytes.{see};
+ghost use Rattle.image.specs.Bytes.{Place, see};
 ghost use Rattle.image.specs.Steps.{see_numbers, numbers_at};
-ghost use Rattle.image_check.specs.Steps.{identifiers_of};
-ghost use Rattle.image_tables.specs.Tables.{identifier_row, AddedList};
+ghost use Rattle.image_check.specs.Steps.{identifiers_of, lists_end};
+ghost use Rattle.image_tables.specs.Tables.{identifier_row, AddedList, AddedLists};
 
 use hir::ids::DeclarationId;
 use hir::span::Span;
@@ -38,6 +38,7 @@ pub fn add_identifiers(identifiers: &mut Vec<Identifier>, content: &[u8]) -> Res
 }
 
 // Puts the list at a cursor behind the pool's numbers: its span, and what follows it. The list was checked.
+// `room` stays a clause: it is of the pool and the bytes together, so that a struct of both would ask for it where it is made.
 pub fn add_list<'a>(
     pool: &mut Vec<u32>,
     cursor: Cursor<'a>,
@@ -56,4 +57,21 @@ pub fn add_list<'a>(
     };
     add_numbers(pool, list)?;
     Ok((span, rest))
+}
+
+// Puts the lists of a section behind the pool's numbers: their spans. The lists were checked.
+pub fn add_lists<const N: usize>(
+    pool: &mut Vec<u32>,
+    content: &[u8],
+) -> Result<[Span; N], AllocError>
+    requires reads { is_ok (lists_end N (0, content.now)) ≡ true }
+    requires room { 4 * vec_len pool.old + length content.now < 2 ^ 32 }
+    ensures { IfOk result (λ s. (q : Place) × AddedLists pool.old.items (0, content.now) s q pool.new.items) }
+{
+    let mut spans = [Span { start: 0, count: 0 }; N];
+    let mut rest = Cursor::new(content);
+    for i in 0..N {
+        (spans[i], rest) = add_list(pool, rest)?;
+    }
+    Ok(spans)
 }
