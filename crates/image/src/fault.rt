@@ -44,6 +44,7 @@ pub enum Layer {
 }
 
 impl Cause {
+    // The number of the refusal.
     pub fn number(self) -> u8
         ensures { result ≡ cause_number self }
     {
@@ -52,6 +53,7 @@ impl Cause {
 }
 
 impl Layer {
+    // Its number, from the bytes up.
     pub fn number(self) -> u8
         ensures { result ≡ layer_number self }
     {

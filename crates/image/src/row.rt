@@ -39,7 +39,7 @@ pub fn check_rows<'a>(cursor: Cursor<'a>, left: u8) -> Result<(), RowFault>
     ensures { Is (λ v. v) result (passed (many_at (row_at left) (see cursor.entry))) }
 {
     let mut rest = cursor;
-    while !rest.rest.is_empty() {
+    while !rest.is_empty() {
         rest = check_row(rest, left)?;
     }
     Ok(())

@@ -52,7 +52,7 @@ impl<'a> Reader<'a> {
     pub fn is_done(&self) -> bool
         ensures { result ≡ (length self.now.left.rest.now == 0) }
     {
-        self.left.rest.is_empty()
+        self.left.is_empty()
     }
 
     // Opens the next section.
@@ -108,7 +108,7 @@ impl<'a> Open<'a> {
             unread,
             behind,
         } = self;
-        if !unread.rest.is_empty() {
+        if !unread.is_empty() {
             return Err(SectionFault::Left(unread.at));
         }
         Ok(Reader { left: behind })

@@ -43,7 +43,7 @@ fn check_open<'a>(mut part: Open<'a>) -> Result<Reader<'a>, RowFault>
     ensures is { Is see_reader result (ended (spent_at (see_open part.entry))) }
     ensures behind { IfOk result (λ v. see_reader v ≡ (see_open part.entry).behind) }
 {
-    match check_content(Rank::of(part.section()), part.unread()) {
+    match check_content(Rank::from(part.section()), part.unread()) {
         Ok(rest) => {
             part.read_to(rest);
             Ok(part.close()?)
@@ -78,7 +78,7 @@ impl<'a> Sections<'a> {
         let Sections { reader, last } = self;
         let at = reader.at();
         let part = reader.open()?;
-        let rank = Rank::of(part.section());
+        let rank = Rank::from(part.section());
         if !rank.may_follow(last) {
             let _ = part.skip();
             return Err(RowFault::Section(SectionFault::Letter(at + 4)));

@@ -15,10 +15,10 @@ pub enum Rank {
     Tree,
 }
 
-impl Rank {
-    pub fn of<'a>(section: Section<'a>) -> Rank
-        ensures { rank_number result ≡ (held section.entry).rank }
-    {
+impl<'a> From<Section<'a>> for Rank {
+    ghost from_gives = { λ s r. rank_number r ≡ (held s).rank };
+
+    fn from(section: Section<'a>) -> Rank {
         match section {
             Section::Identifiers(_) => Rank::Identifiers,
             Section::Scope(_) => Rank::Scope,
@@ -26,7 +26,9 @@ impl Rank {
             Section::Tree(_) => Rank::Tree,
         }
     }
+}
 
+impl Rank {
     // Whether a section of this rank may follow one of rank `last`: I where none has come, and later no second I
     // and no rank below the last.
     pub fn may_follow(self, last: Option<Rank>) -> bool

@@ -38,7 +38,7 @@ fn checked_rows<'a>(content: &'a [u8]) -> Cursor<'a>
         return none;
     };
     match check_row(rows, 128) {
-        Ok(behind) if behind.rest.is_empty() => rows,
+        Ok(behind) if behind.is_empty() => rows,
         _ => none,
     }
 }
