@@ -13,17 +13,9 @@ pub ended_ok : {X E : Type 0} (r : Result (X × Place) E) (q : Place) → ended 
 ended_ok (Ok v) q e = (v.0, ap (λ (t : Place). Ok (v.0, t)) (cc))
 ended_ok (Err f) q e = absurd (cc)
 
-pub ended_err : {X E : Type 0} (r : Result (X × Place) E) (f : E) → ended r ≡ Err f → r ≡ Err f
-ended_err (Ok v) f e = absurd (cc)
-ended_err (Err g) f e = cc
-
 pub passed_ok : {X E : Type 0} (r : Result X E) → passed r ≡ Ok tt → (x : X) × (r ≡ Ok x)
 passed_ok (Ok x) e = (x, refl)
 passed_ok (Err f) e = absurd (cc)
-
-pub passed_err : {X E : Type 0} (r : Result X E) (f : E) → passed r ≡ Err f → r ≡ Err f
-passed_err (Ok x) f e = absurd (cc)
-passed_err (Err g) f e = cc
 
 -- what is made of a value does not alter whether it passes
 pub passed_made : {X Y E : Type 0} (r : Result X E) (f : X → Y) → passed (and_then r (λ x. Ok (f x))) ≡ passed r

@@ -136,10 +136,6 @@ none_closed : {top top' : List ℕ} {below below' : List (List ℕ)} → ClosedT
 none_closed none e = (refl, refl)
 none_closed (more c d) e = let s = none_closed c e in absurd (omega (arith, ap length s.1, fewer _ _ _ _ d))
 
-empty_list : (xs : List (List ℕ)) → length xs ≡ 0 → xs ≡ []
-empty_list [] e = refl
-empty_list (x ∷ xs) e = absurd (omega arith)
-
 -- one row more
 pub begun_on : {rows : List Row} {top : List ℕ} {below : List (List ℕ)} → Begun rows top below → (r : Row) → Stands (length below) (head r) → (top' : List ℕ) (below' : List (List ℕ)) → ClosedTo top below top' below' → length below' ≡ min (length below) r.depth → Begun (rows ++ (r ∷ [])) (fields.write (fields_of r)) (below' ++ (top' ∷ []))
 begun_on fresh r s top' below' c len =

@@ -25,7 +25,3 @@ pub nth_plain : (l : List IdentifierId) (i : ℕ) (id : IdentifierId) → Some i
 nth_plain [] i id e = absurd (cc)
 nth_plain (x ∷ l) zero id e = let s : id ≡ x = cc in ap plain s
 nth_plain (x ∷ l) (suc i) id e = nth_plain l i id e
-
--- one piece behind another
-pub before : (o o' z x y : List ℕ) → o' ≡ o ++ x → z ≡ o' ++ y → z ≡ o ++ (x ++ y)
-before o o' z x y e f = f ∙ ap (λ t. t ++ y) e ∙ append_assoc o x y

@@ -1,5 +1,5 @@
 -- How far the sections of an image are loaded. Assumes nothing.
-use Rattle.std.proofs.Common.{◌≡◌, ℕ, ◌+◌, ◌*◌, ◌<◌, ◌≤◌, List, [], ◌∷◌, ◌++◌, length, Ok, Err, vec_items, sym, refl, ap, ◌∙◌, subst, append_assoc, append-nil, arith, length-append}
+use Rattle.std.proofs.Common.{◌≡◌, ℕ, ◌+◌, ◌*◌, ◌≤◌, List, [], ◌∷◌, ◌++◌, length, Ok, Err, vec_items, sym, refl, ap, ◌∙◌, subst, append_assoc, append-nil, arith, length-append}
 use Rattle.image.specs.declared.fault.SectionFault.{SectionFault}
 use Rattle.image.specs.Bytes.{Place, joined}
 use Rattle.image.specs.Layouts.{Begins}
@@ -26,23 +26,6 @@ version_left : (cs : List Content) (q : Place) → version_at (image_bytes cs) �
 version_left cs q e =
     let v : ◌≡◌ {A = Place} (1, joined section_bytes cs) q = cc (version_there 1 (joined section_bytes cs)) in
     ap (λ (p : Place). p.1) (sym v)
-
-pub begin : (bs : List ℕ) (q : Place) (t : Tables) → Image bs → version_at bs ≡ Ok q → length q.1 < length bs → Holds [] t → length (vec_items t.pool) ≡ 0 → Loading bs q t
-begin bs q t i e less h none = record {
-  loaded = [];
-  rest = i.contents;
-  stage = 0;
-  whole = i.ordered;
-  bytes = i.bytes;
-  order = i.ordered;
-  left = version_left i.contents q (sym (ap version_at i.bytes) ∙ e);
-  holds = h;
-  room = omega arith;
-}
-
--- a checked image has its version
-pub version_never : (bs : List ℕ) (f : SectionFault) → Image bs → version_at bs ≡ Err f → ⊥
-version_never bs f i e = let z : ◌≡◌ {A = ℕ} 0 1 = cc (ap version_at i.bytes, version_there 1 (joined section_bytes i.contents)) in omega arith
 
 -- the next section
 record Upcoming (q : Place) (rest : List Content) (stage : ℕ) : Type 0 where
