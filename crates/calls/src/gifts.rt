@@ -6,6 +6,7 @@ ghost use Rattle.calls.specs.Steps.{GiveStep, LookStep, SpellStep, look_refusal}
 use hir::environment::{Environment, MOST_IDENTIFIERS};
 use hir::ids::IdentifierId;
 use hir::refusal::Refusal;
+use hir::tag::Tag;
 use naming::letter::Letter;
 use naming::naming::Naming;
 
@@ -29,10 +30,10 @@ pub fn give(env: &mut Environment, id: IdentifierId) -> Result<(), Refusal>
 {
     let i = place_of(env, id)?;
     let row = &mut env.identifiers[i];
-    if row.tag != 0 {
+    if !row.is_unnamed() {
         return Err(Refusal::Named);
     }
-    row.tag = 1;
+    row.tag = Tag::Author as u8;
     Ok(())
 }
 
@@ -55,13 +56,14 @@ pub fn spell<N: Naming>(
 {
     let i = place_of(env, id)?;
     let row = env.identifiers[i];
-    if row.declaration.0 as usize >= env.identifiers.len() || row.tag > 3 {
+    if row.declaration.0 as usize >= env.identifiers.len() {
         return Err(Refusal::Row);
     }
-    let letter = match row.tag {
-        2 => Letter::Lower,
-        3 => Letter::Upper,
-        _ => return Err(Refusal::NotPromoted),
+    let letter = match Tag::try_from(row.tag) {
+        Ok(Tag::Lower) => Letter::Lower,
+        Ok(Tag::Upper) => Letter::Upper,
+        Ok(Tag::Unnamed | Tag::Author) => return Err(Refusal::NotPromoted),
+        Err(_) => return Err(Refusal::Row),
     };
     naming.write(letter, row.declaration.0 as u16, buffer)
 }

@@ -6,6 +6,7 @@ ghost use Rattle.hir.specs.Scratches.{noted};
 use hir::environment::Environment;
 use hir::ids::{DeclarationId, IdentifierId, ScopeId};
 use hir::scratch::{Scratch, Trail, Work};
+use hir::tag::Tag;
 use hir::tables::{Function, Identifier, JournalRow, Reason, Scope};
 use std::alloc::{AllocError, Global};
 
@@ -54,7 +55,7 @@ impl State {
         self.identifiers = (0..count)
             .map(|i| Identifier {
                 declaration: DeclarationId(i),
-                tag: 0,
+                tag: Tag::Unnamed as u8,
             })
             .collect(heap)?;
         self.set_journal(heap, count as usize)

@@ -11,15 +11,13 @@ use hir::refusal::Refusal;
 use hir::scratch::Scratch;
 use hir::span::{LONGEST_LIST, Span};
 use hir::tables::{Function, Identifier, Scope};
+use hir::tag::Tag;
 
 // The most scopes.
 const MOST_SCOPES: usize = 16384;
 
 // The most functions.
 const MOST_FUNCTIONS: usize = 4096;
-
-// The highest tag of an identifier.
-const HIGHEST_TAG: u8 = 3;
 
 // Whether a list is too long.
 fn long_list(list: Span) -> bool
@@ -68,11 +66,11 @@ fn passes_limit(env: &Environment, parameters: Span) -> bool
         || long_list(parameters)
 }
 
-// Whether a row's declaration is not below the identifier count, or its tag above the highest.
+// Whether a row's declaration is not below the identifier count, or its tag is none.
 fn bad_row(count: usize, identifier: Identifier) -> bool
     ensures { result ≡ bad_row count identifier }
 {
-    identifier.declaration.0 as usize >= count || identifier.tag > HIGHEST_TAG
+    identifier.declaration.0 as usize >= count || Tag::try_from(identifier.tag).is_err()
 }
 
 // Whether some identifier's row is bad.
@@ -153,7 +151,7 @@ fn count_unnamed(identifiers: &[Identifier]) -> usize
 {
     identifiers
         .iter()
-        .filter(|identifier| identifier.tag == 0)
+        .filter(|identifier| identifier.is_unnamed())
         .count()
 }
 

@@ -5,3 +5,5 @@ pub mod Environments
 pub mod Scratches
 pub mod Lists
 pub mod Sound
+pub mod Bytes
+pub mod Tags

@@ -53,6 +53,7 @@ impl<'a> Environment<'a> {
         requires { Known (model self.now) id }
         ensures { result ≡ (tag_of (model self.now) id.0 == 0) }
     {
-        self.identifiers[id.0 as usize].tag == 0
+        let identifier = self.identifiers[id.0 as usize];
+        identifier.is_unnamed()
     }
 }

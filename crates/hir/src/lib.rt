@@ -7,3 +7,5 @@ pub mod refusal;
 pub mod scratch;
 pub mod span;
 pub mod tables;
+pub mod tag;
+pub mod unknown;

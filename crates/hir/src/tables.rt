@@ -1,14 +1,24 @@
-ghost use Rattle.std.specs.Prelude.{◌≡◌};
+ghost use Rattle.std.specs.Prelude.{◌≡◌, ◌==◌};
 ghost use Rattle.hir.specs.Reasons.{reason_number};
 
 use crate::ids::{DeclarationId, IdentifierId};
 use crate::span::Span;
+use crate::tag::Tag;
 
-// An identifier's declaration, and its tag: 0 no name, 1 an author's name, 2 `#t`, 3 `#T`.
+// An identifier's declaration, and the number of its tag, which is unchecked.
 #[derive(Clone, Copy, PartialEq)]
 pub struct Identifier {
     pub declaration: DeclarationId,
     pub tag: u8,
+}
+
+impl Identifier {
+    // Whether the identifier has no name.
+    pub fn is_unnamed(self) -> bool
+        ensures { result ≡ (self.tag == 0) }
+    {
+        self.tag == Tag::Unnamed as u8
+    }
 }
 
 // The identifiers of a reactive scope.

@@ -13,7 +13,7 @@ use hir::ids::{FunctionId, IdentifierId, ScopeId};
 use hir::scratch::Scratch;
 use hir::span::Span;
 use hir::tables::Reason;
-use promote::identifier::promote_identifier;
+use promote::identifier::promote_if;
 use reactive::code::Code;
 use reactive::given::GivenRow;
 use reactive::row::RowHead;
@@ -27,10 +27,8 @@ fn promote_all_instances_place(env: &mut Environment, scratch: &mut Scratch, id:
     requires sound { Sound (tables env.old scratch.old) }
     ensures { tables env.new scratch.new ≡ promote_instance (tables env.old scratch.old) id }
 {
-    let d = env.declaration(id).0 as usize;
-    if env.is_unnamed(id) && scratch.work[d].promoted {
-        promote_identifier(env, scratch, id, Reason::SameDeclaration);
-    }
+    let promoted = scratch.work[env.declaration(id).0 as usize].promoted;
+    promote_if(env, scratch, id, Reason::SameDeclaration, promoted);
 }
 
 // The same for the identifiers of a list.

@@ -7,7 +7,7 @@ use hir::environment::Environment;
 use hir::ids::IdentifierId;
 use hir::scratch::Scratch;
 use hir::tables::Reason;
-use promote::identifier::promote_identifier;
+use promote::identifier::promote_if;
 
 // The third pass: `epoch` is one more than the barriers so far.
 #[derive(Clone, Copy)]
@@ -23,9 +23,13 @@ impl PromoteInterposed {
     {
         let work = scratch.work[id.0 as usize];
         let exposed = 0 < work.tracked && work.tracked < self.epoch;
-        if env.is_unnamed(id) && !work.constant && exposed {
-            promote_identifier(env, scratch, id, Reason::Interposed);
-        }
+        promote_if(
+            env,
+            scratch,
+            id,
+            Reason::Interposed,
+            !work.constant && exposed,
+        );
     }
 
     // An identifier becomes constant.

@@ -11,7 +11,7 @@ use reactive::given::GivenRow;
 use reactive::kind::Kind;
 use reactive::row::{Number, RowHead};
 use reactive::source::TreeSource;
-use reactive::unknown::Unknown;
+use hir::unknown::Unknown;
 use std::{fmt, io};
 
 // Prints the case that a byte stands for, or `?`.
@@ -135,7 +135,7 @@ pub fn print_journal(rt: &HostRuntime, env: &Environment) -> io::Result<()> {
 // Prints each identifier that stays inline.
 pub fn print_inline(rt: &HostRuntime, env: &Environment) -> io::Result<()> {
     for (i, row) in env.identifiers.iter().enumerate() {
-        if row.tag == 0 {
+        if row.is_unnamed() {
             println!(rt; "${i} stays inline")?;
         }
     }

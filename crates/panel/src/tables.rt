@@ -9,6 +9,7 @@
 use hir::ids::{DeclarationId, IdentifierId, ScopeId};
 use hir::span::Span;
 use hir::tables::{Identifier, Scope};
+use hir::tag::Tag;
 use reactive::code::Code;
 use reactive::kind::Kind;
 use reactive::row::Number;
@@ -39,7 +40,7 @@ pub fn parameters() -> Span {
 pub fn identifiers() -> [Identifier; IDENTIFIERS] {
     array::from_fn(|i| Identifier {
         declaration: DeclarationId(i as u32),
-        tag: 0,
+        tag: Tag::Unnamed as u8,
     })
 }
 

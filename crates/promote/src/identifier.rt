@@ -1,16 +1,17 @@
-ghost use Rattle.std.specs.Prelude.{◌≡◌};
+ghost use Rattle.std.specs.Prelude.{◌≡◌, ◌&&◌};
 ghost use Rattle.hir.specs.Environments.{model, tag_of};
 ghost use Rattle.hir.specs.Lists.{over};
 ghost use Rattle.hir.specs.Scratches.{tables};
 ghost use Rattle.hir.specs.Sound.{Sound, Known, KnownIn};
 ghost use Rattle.hir.specs.Spans.{identifiers_in};
-ghost use Rattle.promote.specs.Identifier.{promoted, promote_unnamed};
+ghost use Rattle.promote.specs.Identifier.{is_unnamed, promoted, promote_if, promote_unnamed};
 
 use hir::environment::Environment;
 use hir::ids::IdentifierId;
 use hir::scratch::Scratch;
 use hir::span::Span;
 use hir::tables::{JournalRow, Reason};
+use hir::tag::Tag;
 
 // Names an identifier that has no name: `#T` where its declaration is that of a JSX tag, else `#t`.
 pub fn promote_identifier(
@@ -25,9 +26,13 @@ pub fn promote_identifier(
     ensures { tables env.new scratch.new ≡ promoted reason (tables env.old scratch.old) id }
 {
     let d = env.declaration(id).0 as usize;
-    let tag = if scratch.work[d].tag { 3 } else { 2 };
+    let tag = if scratch.work[d].tag {
+        Tag::Upper
+    } else {
+        Tag::Lower
+    };
     scratch.work[d].promoted = true;
-    env.identifiers[id.0 as usize].tag = tag;
+    env.identifiers[id.0 as usize].tag = tag as u8;
     env.journal[env.count] = JournalRow {
         identifier: id,
         reason,
@@ -48,6 +53,23 @@ pub fn promote_unnamed(
 {
     if env.is_unnamed(id) {
         promote_identifier(env, scratch, id, reason);
+    }
+}
+
+// Names an identifier that has no name, where this holds.
+pub fn promote_if(
+    env: &mut Environment,
+    scratch: &mut Scratch,
+    id: IdentifierId,
+    reason: Reason,
+    holds: bool,
+)
+    requires known { Known (model env.old) id }
+    requires sound { Sound (tables env.old scratch.old) }
+    ensures { tables env.new scratch.new ≡ promote_if (is_unnamed (model env.old) id && holds) reason (tables env.old scratch.old) id }
+{
+    if holds {
+        promote_unnamed(env, scratch, id, reason);
     }
 }
 

@@ -8,7 +8,7 @@ ghost use Rattle.reactive.specs.Rows.{Reading, rewound};
 ghost use Rattle.walk.specs.Events.{Shallow, on_tables};
 ghost use Rattle.promote.specs.Temporaries.{promote_escaped, visit, unvisited, does, Act, scope, pruned, inner, acts, Readies, Ready, pass_acts, promote_temporaries};
 
-use crate::identifier::{promote_identifier, promote_list};
+use crate::identifier::{promote_if, promote_list};
 use hir::environment::Environment;
 use hir::ids::{FunctionId, IdentifierId, ScopeId};
 use hir::scratch::Scratch;
@@ -27,10 +27,8 @@ fn promote_escaped(env: &mut Environment, scratch: &mut Scratch, id: IdentifierI
     requires sound { Sound (tables env.old scratch.old) }
     ensures { tables env.new scratch.new ≡ promote_escaped (tables env.old scratch.old) id }
 {
-    let d = env.declaration(id).0 as usize;
-    if env.is_unnamed(id) && scratch.work[d].escaped {
-        promote_identifier(env, scratch, id, Reason::Escape);
-    }
+    let escaped = scratch.work[env.declaration(id).0 as usize].escaped;
+    promote_if(env, scratch, id, Reason::Escape, escaped);
 }
 
 // Names what a Scope row's scope depends on and declares.

@@ -1,4 +1,3 @@
 pub mod Places
 pub mod Steps
 pub mod Lists
-pub mod Decoding

@@ -4,5 +4,4 @@ pub mod Rows
 pub mod Tables
 pub mod Sound
 pub mod Kinds
-pub mod Bytes
 pub mod Given

@@ -1,8 +1,8 @@
 // The codes of rows.
 ghost use Rattle.reactive.specs.Codes.{code_number};
-ghost use Rattle.reactive.specs.Bytes.{Decodes};
+ghost use Rattle.hir.specs.Bytes.{Decodes};
 
-use crate::unknown::Unknown;
+use hir::unknown::Unknown;
 
 // What a row is.
 #[derive(Clone, Copy, Debug, PartialEq, Eq)]

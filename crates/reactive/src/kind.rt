@@ -1,8 +1,8 @@
 // The kinds of Leaf, in the order of `InstructionValue`.
 ghost use Rattle.reactive.specs.Kinds.{kind_number};
-ghost use Rattle.reactive.specs.Bytes.{Decodes};
+ghost use Rattle.hir.specs.Bytes.{Decodes};
 
-use crate::unknown::Unknown;
+use hir::unknown::Unknown;
 
 // What a Leaf computes.
 #[derive(Clone, Copy, Debug, PartialEq, Eq)]

@@ -9,4 +9,3 @@ pub mod mode;
 pub mod row;
 pub mod source;
 pub mod table;
-pub mod unknown;

@@ -1,8 +1,8 @@
 // The modes of declarations and stores, in the order of `InstructionKind`.
 ghost use Rattle.reactive.specs.Kinds.{mode_number};
-ghost use Rattle.reactive.specs.Bytes.{Decodes};
+ghost use Rattle.hir.specs.Bytes.{Decodes};
 
-use crate::unknown::Unknown;
+use hir::unknown::Unknown;
 
 // How a place is declared or stored to.
 #[derive(Clone, Copy, Debug, PartialEq, Eq)]

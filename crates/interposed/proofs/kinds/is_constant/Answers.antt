@@ -1,6 +1,6 @@
 use Rattle.std.proofs.Common.{◌≡◌, ℕ, ◌<◌, ◌≤◌, false, sym, arith}
 use Rattle.reactive.specs.Kinds.{mode_number}
-use Rattle.reactive.proofs.Decoding.{undecoded}
+use Rattle.hir.proofs.Decoding.{undecoded}
 use Rattle.interposed.specs.Kinds.{is_constant}
 use Rattle.interposed.proofs.kinds.is_constant.Goals as goal
 

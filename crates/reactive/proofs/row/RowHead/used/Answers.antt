@@ -1,7 +1,7 @@
 use Rattle.std.proofs.Common.{◌≡◌, ℕ, ◌<◌, ◌≤◌, false, sym, arith}
 use Rattle.std.proofs.lemmas.Bool.{cond-false}
 use Rattle.reactive.specs.Codes.{code_number, uses_identifier}
-use Rattle.reactive.proofs.Decoding.{undecoded}
+use Rattle.hir.proofs.Decoding.{undecoded}
 use Rattle.reactive.proofs.row.RowHead.used.Goals as goal
 
 no_code_unused : (c : ℕ) → (1 ≤ c → 24 < c) → uses_identifier c ≡ false

@@ -1,3 +1,3 @@
-// A byte that stands for no code, kind or mode.
+// A byte that stands for no case: no tag, code, kind or mode.
 #[derive(Clone, Copy, Debug, PartialEq, Eq)]
 pub struct Unknown(pub u8);

@@ -1,6 +1,6 @@
 -- Bytes that stand for cases. Assumes nothing.
 use Rattle.std.specs.Prelude.{◌≡◌, ℕ, ◌<◌, ◌≤◌, Result, MatchResult}
-use Rattle.reactive.specs.declared.unknown.Unknown.{Unknown}
+use Rattle.hir.specs.declared.unknown.Unknown.{Unknown}
 
 -- the case whose number the byte is, or the byte, which is not from the least to the most of the numbers
 abbrev pub Decodes : {A : Type 0} → (A → ℕ) → ℕ → ℕ → ℕ → Result A Unknown → Type 0
