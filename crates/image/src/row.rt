@@ -21,6 +21,7 @@ impl<'a> Cursor<'a> {
 
 // A row, where `left` more may be open: what follows it.
 #[cycle(check_row_check_rows)]
+#[tactic(auto, using(crate::proofs::Turns::row_deep))]
 pub fn check_row<'a>(cursor: Cursor<'a>, left: u8) -> Result<Cursor<'a>, RowFault>
     ensures is { Is see result (ended (row_at left (see cursor.entry))) }
     ensures shorter { IfOk result (λ v. length v.rest.now + 4 ≤ length cursor.entry.rest.now) }
@@ -35,6 +36,7 @@ pub fn check_row<'a>(cursor: Cursor<'a>, left: u8) -> Result<Cursor<'a>, RowFaul
 
 // Rows to the end of their holder, each with `left` more that may be open.
 #[cycle(check_row_check_rows)]
+#[tactic(auto, using(crate::proofs::Turns::turn))]
 pub fn check_rows<'a>(cursor: Cursor<'a>, left: u8) -> Result<(), RowFault>
     ensures { Is (λ v. v) result (passed (many_at (row_at left) (see cursor.entry))) }
 {

@@ -13,7 +13,7 @@ use image::row::check_row;
 use image::section::{Open, Reader};
 
 // What follows this many lists.
-#[tactic(auto, using(crate::proofs::Lists::lists_next, crate::proofs::Lists::lists_stop))]
+#[tactic(auto, using(crate::proofs::Lists::lists_next))]
 fn past_lists<'a>(cursor: Cursor<'a>, count: u8) -> Result<Cursor<'a>, SectionFault>
     ensures { Is see result (in_section (lists_end count (see cursor.entry))) }
 {
@@ -26,7 +26,6 @@ fn past_lists<'a>(cursor: Cursor<'a>, count: u8) -> Result<Cursor<'a>, SectionFa
 
 // How far the content of a section reads: whole identifier rows, the three lists of a scope, the two of a function,
 // or own parameters and row 0.
-#[tactic(auto, using(crate::proofs::Lists::scope_ends, crate::proofs::Lists::function_ends, crate::proofs::Lists::tree_ends))]
 fn check_content<'a>(rank: Rank, content: Cursor<'a>) -> Result<Cursor<'a>, RowFault>
     ensures { Is see result (ended (content_at (rank_number rank) (see content.entry))) }
 {
@@ -90,6 +89,7 @@ impl<'a> Sections<'a> {
 }
 
 // Reads the sections of an image to its end.
+#[tactic(auto, using(crate::proofs::Sections::begin, crate::proofs::Sections::turn))]
 fn check_sections(image: &[u8]) -> Result<(), RowFault>
     ensures { Is (λ v. v) result (passed (image_at image.now)) }
 {

@@ -83,6 +83,7 @@ impl<'a> ImageSource<'a> {
 impl<'a> TreeSource for ImageSource<'a> {
     ghost reading = { image_reading };
 
+    #[tactic(auto, using(crate::proofs::Keeps::restarts))]
     fn rewind(&mut self) {
         self.at = Standing::new(self.rows);
     }

@@ -60,6 +60,7 @@ pub fn add_list<'a>(
 }
 
 // Puts the lists of a section behind the pool's numbers: their spans. The lists were checked.
+#[tactic(auto, using(crate::proofs::Spans::next_reads))]
 pub fn add_lists<const N: usize>(
     pool: &mut Vec<u32>,
     content: &[u8],

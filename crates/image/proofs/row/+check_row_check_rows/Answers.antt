@@ -1,12 +1,8 @@
-use Rattle.std.proofs.Common.{arith, false-eqb}
+use Rattle.std.proofs.Common.{arith}
 use Rattle.std.proofs.lemmas.Result.{err_from_is_err_and}
 use Rattle.image.specs.Bytes.{see}
-use Rattle.image.specs.Steps.{row_at}
-use Rattle.image.proofs.Turns.{turn, row_deep, head_fault, child_fault, row_passes}
+use Rattle.image.proofs.Turns.{head_fault, child_fault, row_passes}
 use Rattle.image.proofs.row.+check_row_check_rows.Goals as goal
-
-pub check_row-returns-then-left-eq0-clause-is : goal.check_row-returns-then-left-eq0-clause-is
-check_row-returns-then-left-eq0-clause-is t c = row_deep c.args.left (see c.args.cursor) (omega arith)
 
 pub check_row-returns-in_err-children-clause-is : goal.check_row-returns-in_err-children-clause-is
 check_row-returns-in_err-children-clause-is t c =
@@ -20,6 +16,3 @@ check_row-returns-in_err-check_rows-clause-is t c =
 
 pub check_row-returns-clause-is : goal.check_row-returns-clause-is
 check_row-returns-clause-is t c = row_passes c.args.left (see c.args.cursor) (λ e. omega arith) _ c.in_ok-children.ensures.is c.in_ok-check_rows.ensures
-
-pub check_rows-loop-rest-preserved : goal.check_rows-loop-rest-preserved
-check_rows-loop-rest-preserved t c = turn (row_at c.args.left) (see c.args.cursor) (see c.loop-rest.rest) _ c.loop-rest.invariant (false-eqb _ 0 c.loop-rest-test.ensures) c.in_ok-rest.ensures.is (omega (arith, c.in_ok-rest.ensures.shorter))

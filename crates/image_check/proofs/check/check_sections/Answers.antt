@@ -2,16 +2,8 @@ use Rattle.std.proofs.Common.{sym}
 use Rattle.std.proofs.lemmas.Result.{err_from_is_err_and}
 use Rattle.image.specs.Steps.{see_reader}
 use Rattle.image_check.specs.Ranks.{stage_of}
-use Rattle.image_check.proofs.Sections.{begin, turn, stop}
+use Rattle.image_check.proofs.Sections.{stop}
 use Rattle.image_check.proofs.check.check_sections.Goals as goal
-
-pub loop-sections-init : goal.loop-sections-init
-loop-sections-init c = begin c.args.image.now _ c.in_ok-reader.ensures.is c.in_ok-reader.ensures.shorter
-
-pub loop-sections-preserved : goal.loop-sections-preserved
-loop-sections-preserved c =
-    let s = c.loop-sections.sections in
-    turn c.args.image.now (stage_of s.last) (see_reader s.reader) _ _ c.loop-sections.invariant (sym c.loop-sections-test.ensures) c.in_ok-sections.ensures.is c.in_ok-sections.ensures.shorter
 
 pub returns-in_err-sections : goal.returns-in_err-sections
 returns-in_err-sections c =
