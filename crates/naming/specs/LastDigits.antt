@@ -7,7 +7,7 @@ use Rattle.std.proofs.lemmas.List.{length_push, drop-set, same_from_push}
 use Rattle.std.proofs.lemmas.Bool.Decides.{nat_tests}
 use Rattle.naming.specs.Texts.{digit_byte, last_digits}
 
-length_last_digits : (base count n : ℕ) → length (last_digits base count n) ≡ count
+pub length_last_digits : (base count n : ℕ) → length (last_digits base count n) ≡ count
 length_last_digits base zero n = refl
 length_last_digits base (suc count) n =
     length_push (last_digits base count (n / base)) (digit_byte (n % base))
