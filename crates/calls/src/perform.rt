@@ -13,7 +13,7 @@ use hir::scratch::Scratch;
 use naming::naming::Naming;
 use reactive::source::TreeSource;
 
-// Makes one call. What it may alter is lent part by part: a struct around the parts would not tell its lender what it left.
+// Makes one call. What it may alter is lent part by part: a struct around the parts would need a clause for each that its reference stays the same.
 fn call<S: TreeSource, N: Naming>(
     env: &mut Environment,
     scratch: &mut Scratch,

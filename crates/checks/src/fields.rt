@@ -109,7 +109,7 @@ fn wrong_marks(kind: Kind, count: usize) -> bool
     }
 }
 
-// Whether some identifier of a list is absent.
+// Whether some identifier of a list is absent, by a loop and no chain: a rule of this project for range checks.
 fn absent_in<S: TreeSource>(ids: Identifiers<S>, count: usize) -> bool
     ensures { result ≡ absent_in count ids.entry }
 {

@@ -38,6 +38,7 @@ fn check_all<S: TreeSource>(source: &mut S, sizes: Sizes) -> Result<usize, Refus
     ensures rows { (S.TreeSource.reading source.new).rows ≡ (S.TreeSource.reading source.old).rows }
 {
     let mut stack = Stack::new();
+    // Counted by hand: the source answers the lists of each row before the next, so that no iterator can hold it.
     let mut seen: usize = 0;
     let mut scopes: usize = 0;
     while let Some(row) = source.next() {

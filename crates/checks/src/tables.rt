@@ -83,7 +83,7 @@ fn some_bad_row(identifiers: &[Identifier]) -> bool
         .any(|identifier| bad_row(count, *identifier))
 }
 
-// Whether some number is not below the count.
+// Whether some number is not below the count, by a loop and no chain: a rule of this project for range checks.
 fn some_absent(count: usize, numbers: &[u32]) -> bool
     ensures { result ≡ list_any (nat_le count) numbers.now }
 {

@@ -70,7 +70,7 @@ impl CollectPromotable {
         scratch.work[d] = work;
     }
 
-    // Records all that a Pruned row's scope declares.
+    // Records all that a Pruned row's scope declares. Every pass loops over its lists itself: a rule of this project.
     fn record_pruned_scope(self, env: &Environment, scratch: &mut Scratch, id: ScopeId)
         requires { Ready (whole self (tables env.now scratch.old)) (prunes id ∷ []) }
         ensures { whole self (tables env.now scratch.new) ≡ does (whole self (tables env.now scratch.old)) (prunes id) }
@@ -106,7 +106,7 @@ impl CollectPromotable {
         }
     }
 
-    // The operands of a row are used, in their order.
+    // The operands of a row are used, in their order. Every pass loops over them itself: a rule of this project.
     fn collect_promotable_operands<S: TreeSource>(
         self,
         env: &Environment,
@@ -130,7 +130,7 @@ impl CollectPromotable {
         scratch.work[d].tag = true;
     }
 
-    // The marks of a row are tags.
+    // The marks of a row are tags. Every pass loops over lists itself: a rule of this project.
     fn collect_promotable_tags<S: TreeSource>(
         self,
         env: &Environment,

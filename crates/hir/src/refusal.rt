@@ -19,6 +19,7 @@ pub enum Refusal {
 }
 
 impl Refusal {
+    // A method and no From: the name says what the byte is.
     pub fn number(self) -> u8
         ensures { result ≡ refusal_number self }
     {

@@ -27,6 +27,7 @@ pub struct Trail {
     pub link: u32,
 }
 
+// Handed on beside the environment and not in one struct with it, whose methods would each have to ensure that both references stay the same.
 // Memory that a run may write over: a work row for each identifier, a mark for each function, a trail row for each Scope row.
 #[derive(Drop)]
 pub struct Scratch<'a> {

@@ -48,6 +48,7 @@ pub enum Reason {
 }
 
 impl Reason {
+    // A method and no From: the name says what the byte is.
     pub fn number(self) -> u8
         ensures { result ≡ reason_number self }
     {

@@ -13,6 +13,7 @@ pub enum Tag {
     Upper = 3,
 }
 
+// Written out: there is no derive for it.
 impl TryFrom<u8> for Tag {
     type Error = Unknown;
 

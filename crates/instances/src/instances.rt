@@ -31,7 +31,7 @@ fn promote_all_instances_place(env: &mut Environment, scratch: &mut Scratch, id:
     promote_if(env, scratch, id, Reason::SameDeclaration, promoted);
 }
 
-// The same for the identifiers of a list.
+// The same for the identifiers of a list. Every pass loops over its lists itself: a rule of this project.
 fn promote_all_instances_list(env: &mut Environment, scratch: &mut Scratch, list: Span)
     requires known { KnownIn (model env.old) list }
     requires sound { Sound (tables env.old scratch.old) }
@@ -58,7 +58,7 @@ fn promote_all_instances_scope_identifiers(
     promote_all_instances_list(env, scratch, scope.reassignments);
 }
 
-// The same for the operands of a row, in their order.
+// The same for the operands of a row, in their order. Every pass loops over them itself: a rule of this project.
 fn promote_all_instances_operands<S: TreeSource>(
     env: &mut Environment,
     scratch: &mut Scratch,

@@ -23,7 +23,7 @@ use walk::visitor::Visitor;
 use walk::walking::walk;
 
 impl PromoteInterposed {
-    // The marks of a row become constant.
+    // The marks of a row become constant. Every pass loops over lists itself: a rule of this project.
     fn fix_marks<S: TreeSource>(&self, env: &Environment, scratch: &mut Scratch, row: &GivenRow<S>)
         requires { Ready (whole self.now (tables env.now scratch.old)) (map fixes row.now.marks) }
         ensures { whole self.now (tables env.now scratch.new) ≡ over does (whole self.now (tables env.now scratch.old)) (map fixes row.now.marks) }
@@ -33,7 +33,7 @@ impl PromoteInterposed {
         }
     }
 
-    // The operands of a row are used, in their order.
+    // The operands of a row are used, in their order. Every pass loops over them itself: a rule of this project.
     fn use_operands<S: TreeSource>(
         &self,
         env: &mut Environment,
@@ -190,7 +190,7 @@ impl Visitor for PromoteInterposed {
     fn leave(&mut self, _env: &mut Environment, _scratch: &mut Scratch, _row: &RowHead) {}
 }
 
-// Own parameters are constant from the start.
+// Own parameters are constant from the start. Every pass loops over its lists itself: a rule of this project.
 fn fix_parameters(
     visitor: &PromoteInterposed,
     env: &Environment,

@@ -10,7 +10,7 @@ pub enum Letter {
 }
 
 impl Letter {
-    // The byte that stands for the letter in a text.
+    // The byte that stands for the letter in a text. A method and no From: the name says what the byte is.
     pub fn byte(self) -> u8
         ensures { result ≡ letter_byte self }
     {

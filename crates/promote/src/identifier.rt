@@ -73,7 +73,7 @@ pub fn promote_if(
     }
 }
 
-// Names the identifiers of a list that have no name.
+// Names the identifiers of a list that have no name. Every pass loops over its lists itself: a rule of this project.
 pub fn promote_list(env: &mut Environment, scratch: &mut Scratch, list: Span, reason: Reason)
     requires known { KnownIn (model env.old) list }
     requires sound { Sound (tables env.old scratch.old) }

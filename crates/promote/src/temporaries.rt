@@ -42,7 +42,7 @@ fn promote_scope(env: &mut Environment, scratch: &mut Scratch, id: ScopeId)
     promote_list(env, scratch, scope.declarations, Reason::Scope);
 }
 
-// Names what a Pruned row's scope declares and what escaped.
+// Names what a Pruned row's scope declares and what escaped. Every pass loops over its lists itself: a rule of this project.
 fn promote_pruned_scope(env: &mut Environment, scratch: &mut Scratch, id: ScopeId)
     requires known { id.0 < length env.old.scopes.now }
     requires sound { Sound (tables env.old scratch.old) }
@@ -54,7 +54,7 @@ fn promote_pruned_scope(env: &mut Environment, scratch: &mut Scratch, id: ScopeI
     }
 }
 
-// Names the parameters of a function and of those nested in it; each function is visited once.
+// Names the parameters of a function and of those nested in it; each function is visited once. The loop over the list is the pass's own: a rule of this project.
 fn visit_hir_function_for_promotion(env: &mut Environment, scratch: &mut Scratch, id: FunctionId)
     requires known { KnownFunction (model env.old) id }
     requires sound { Sound (tables env.old scratch.old) }

@@ -33,6 +33,7 @@ pub enum Code {
     Handler = 24,
 }
 
+// Written out: there is no derive for it.
 impl TryFrom<u8> for Code {
     type Error = Unknown;
 

@@ -51,6 +51,7 @@ pub enum Kind {
     FinishMemoize = 41,
 }
 
+// Written out: there is no derive for it.
 impl TryFrom<u8> for Kind {
     type Error = Unknown;
 

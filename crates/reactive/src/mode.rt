@@ -17,6 +17,7 @@ pub enum Mode {
     Function = 7,
 }
 
+// Written out: there is no derive for it.
 impl TryFrom<u8> for Mode {
     type Error = Unknown;
 
