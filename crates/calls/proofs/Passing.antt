@@ -210,14 +210,6 @@ module _ (ps : Span) (r s : Reading) (back : s ≡ rewound r) where
   pub after_interposed : (t on : Tables) → Passable t ps r.rows → on ≡ interposed.promote_interposed t ps r.rows → Passable on ps s.rows
   after_interposed t on p f = same_rows on (onward t on ps r.rows (λ x. interposed.promote_interposed x ps r.rows) p (grows_interposed ps r.rows) f)
 
--- a refused run
-pub run_refused : (m : Model) (n : Notes) (ps : Span) (rs : List Row) (r : Refusal) → run_refusal m n ps rs ≡ Some r → RunStep m n ps rs (Err r) m n
-run_refused m n ps rs r e = record {
-  accepted = λ f. cc;
-  refused = λ x f. record { answers = cc; env = refl; scratch = refl };
-  sizes = record { work = refl; marks = refl; trail = refl };
-}
-
 -- what the passes leave is what the rows cover
 ran_passed : (t : Tables) (ps : Span) (rs : List Row) → Passable t ps rs → (passed t ps rs).env ≡ ran t.env ps rs
 ran_passed t ps rs p =

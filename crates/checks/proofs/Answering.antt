@@ -20,14 +20,6 @@ pub not_refused : {X : Type 0} (o : Option Refusal) (x y : X) → Ok y ≡ answe
 not_refused None x y e = refl
 not_refused (Some q) x y e = absurd (let z : ◌≡◌ {A = ℕ} 0 1 = cc in omega arith)
 
--- of two tests the first refuses
-pub first_refuses : (o p : Option Refusal) (r : Refusal) → o ≡ Some r → or_else o p ≡ Some r
-first_refuses o p r e = ap (λ k. or_else k p) e
-
--- of two tests the first passes, so that the second decides
-pub second_decides : (o p : Option Refusal) → o ≡ None → or_else o p ≡ p
-second_decides o p e = ap (λ k. or_else k p) e
-
 -- a row that was refused has no place
 pub unplaced_refused : (o : Option Open) (r : Refusal) → ◌≡◌ {A = Result (Unit {0}) Refusal} (Err r) (answered (unplaced o) tt) → (o ≡ None) × (r ≡ refusals.Shape)
 unplaced_refused None r e = (refl, cc)

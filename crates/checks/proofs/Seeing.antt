@@ -17,17 +17,6 @@ pub record Seen (z : Sizes) (start s : Reading) (stack : Open) (seen scopes : �
   pub few : scopes ≤ seen
   pub limit : seen ≤ 262144
 
-pub seen_none : (z : Sizes) (s : Reading) (stack : Open) → s.place ≡ 0 → stack ≡ [] → Seen z s s stack 0 0
-seen_none z s stack e none =
-    let l : left s ≡ s.rows = ap (λ p. drop p s.rows) e in
-    record {
-      same = refl;
-      refusal = λ k. rows_refusal z 0 (none k) (l k);
-      sum = (let a = ap scope_rows l in omega arith);
-      few = omega arith;
-      limit = omega arith;
-    }
-
 -- one row more is given
 module _ {z : Sizes} {start s : Reading} {stack : Open} {seen scopes : ℕ} (inv : Seen z start s stack seen scopes) {t : Reading} (row : RowHead) (gave : Some row ≡ upcoming s) (on : t ≡ advanced s) where
   last_is : (got : steps.Gives s row) → last_row t ≡ got.item

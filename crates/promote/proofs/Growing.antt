@@ -83,9 +83,6 @@ grows_trans x y =
     let n = named_trans x.named y.named in
     record { rows = n.0; named = n.1; work = y.work ∙ x.work; marks = y.marks ∙ x.marks; trail = y.trail ∙ x.trail }
 
-pub known_kept : {m t : Model} → Kept m t → (i : IdentifierId) → Known m i → Known t i
-known_kept k i h = omega (arith, k.size)
-
 pub known_in_kept : {m t : Model} → Kept m t → (s : Span) → KnownIn m s → KnownIn t s
 known_in_kept {m} {t} k s h =
     let P : ℕ → Type 0 = λ n. Each (λ (i : IdentifierId). i.0 < n) (identifiers_in m.pool s) in

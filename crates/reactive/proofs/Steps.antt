@@ -3,6 +3,7 @@ use Rattle.std.proofs.Common.{◌≡◌, ℕ, zero, suc, ◌<◌, ◌≤◌, Lis
 use Rattle.std.specs.Option.{option_map}
 use Rattle.std.specs.List.{slice_get}
 use Rattle.std.proofs.lemmas.List.{drop_all}
+use Rattle.std.proofs.lemmas.Option.{slice_get_within}
 use Rattle.std.proofs.lemmas.Bool.{cond-true, cond-false, lt-ltb, le-ltb}
 use Rattle.reactive.specs.declared.row.RowHead.{RowHead}
 use Rattle.reactive.specs.Rows.{Row, Reading, at_place, head, upcoming, advanced, given, left}
@@ -14,11 +15,6 @@ pub record Gives (s : Reading) (row : RowHead) : Type 0 where
   pub rest : left s ≡ item ∷ left (advanced s)
   pub last : given (advanced s) ≡ Some item
   pub more : s.place < length s.rows
-
-pub some_place : {A : Type 0} (xs : List A) (i : ℕ) (x : A) → slice_get xs i ≡ Some x → i < length xs
-some_place [] i x e = absurd (let z : ◌≡◌ {A = ℕ} 0 1 = cc in omega arith)
-some_place (y ∷ ys) zero x e = omega arith
-some_place (y ∷ ys) (suc i) x e = let h = some_place ys i x e in omega arith
 
 pub none_place : {A : Type 0} (xs : List A) (i : ℕ) → slice_get xs i ≡ None → length xs ≤ i
 none_place [] i e = omega arith
@@ -41,7 +37,7 @@ unmapped_none (Some i) e = absurd (let z : ◌≡◌ {A = ℕ} 0 1 = cc in omega
 pub gives : (s : Reading) (row : RowHead) → Some row ≡ upcoming s → Gives s row
 gives s row e =
     let u = unmapped (slice_get s.rows s.place) row (sym e) in
-    let h = some_place s.rows s.place u.0 u.1 in
+    let h = slice_get_within s.rows s.place u.0 u.1 in
     let on : advanced s ≡ at_place s.rows (suc s.place) = ap (at_place s.rows) (cond-true _ _ _ (lt-ltb _ _ h) ∙ add-one s.place) in
     record {
       item = u.0;

@@ -49,9 +49,6 @@ firsts_admit m js (r ∷ rows) =
 pub firsts_all : (m : Model) (rows : List JournalRow) → firsts (is_named m) rows ≡ over (admit m) [] rows
 firsts_all m rows = firsts_admit m [] rows
 
-pub declares_push : (m : Model) (js : List JournalRow) (r : JournalRow) (d : ℕ) → declares m (js ++ r ∷ []) d ≡ (declares m js d || (declares m (r ∷ []) d))
-declares_push m js r d = some_append _ js (r ∷ [])
-
 absorbed : (i x : ℕ) (p : ℕ → Bool) → p x ≡ true → p i ≡ (eqb i x || p i)
 absorbed i x p h =
     ⊎_elim

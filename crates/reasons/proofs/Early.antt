@@ -40,9 +40,6 @@ module _ (m : Model) (up out : ℕ → Bool) (static : Static m) where
     pub seen : Seen m up out (declares m) (over (admit m) [] s.rows) t
     pub marks : (f : ℕ) → f < length m.functions → get_or t.notes.marks f false ≡ s.visited f
 
-  list_is : (t : Tables) (js : List JournalRow) → SeenAt js t → (list : Span) → identifiers_in t.env.pool list ≡ identifiers_in m.pool list
-  list_is t js s list = ap (λ p. identifiers_in p list) s.view.grown.pool
-
   scope_is : (t : Tables) (js : List JournalRow) → SeenAt js t → (s : ℕ) → scope_of t.env s ≡ scope_of m s
   scope_is t js s x = ap (λ ss. get_or ss x no_scope) s.view.grown.scopes
 

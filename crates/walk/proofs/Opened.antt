@@ -24,12 +24,6 @@ staying_short (r ∷ around) d h = let l : length around < d = omega arith in co
 pub closing_none : (rs : List RowHead) (d : ℕ) → length rs ≤ d → closing d (reverse rs) ≡ []
 closing_none rs d h = closing_short (reverse rs) d (omega (arith, length-reverse rs))
 
--- one more is open than before, and has to be left
-pub closing_more : (all rs : List RowHead) (r : RowHead) (d : ℕ) → all ≡ rs ++ r ∷ [] → d ≤ length rs → closing d (reverse all) ≡ leaving r ∷ closing d (reverse rs)
-closing_more all rs r d e h =
-    let l : d ≤ length (reverse rs) = omega (arith, length-reverse rs) in
-    ap (closing d) (ap reverse e ∙ reverse_push rs r) ∙ cond-true _ _ _ (le-leb _ _ l)
-
 -- of more rows than may stay those further in go
 staying_past : (inner outer : List RowHead) (d : ℕ) → length outer ≡ d → staying d (inner ++ outer) ≡ outer
 staying_past [] outer d e = staying_short outer d (omega arith)
