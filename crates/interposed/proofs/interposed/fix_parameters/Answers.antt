@@ -14,16 +14,3 @@ loop-n-init c =
     let w = whole c.args.visitor.now (tables c.args.env.now c.args.scratch.now) in
     let P : List ℕ → Type 0 = λ ns. Ready w (map (λ n. fixes (ident n)) ns) in
     doing_none does Ready splits (λ n. fixes (ident n)) w _ (subst P (sym c.of-n-items.ensures) (subst (Ready w) (map_map fixes ident _) c.requires))
-
-pub fix-requires : goal.fix-requires
-fix-requires c = doing_one does Ready splits (λ n. fixes (ident n)) _ _ _ _ _ _ c.loop-n.invariant (slice_here _ c.loop-n.n-index 0 (omega arith))
-
-pub loop-n-preserved : goal.loop-n-preserved
-loop-n-preserved c = doing_more does Ready splits (λ n. fixes (ident n)) _ _ _ _ _ _ c.loop-n.invariant (slice_here _ c.loop-n.n-index 0 (omega arith)) _ c.fix.ensures
-
-pub returns : goal.returns
-returns c =
-    let w = whole c.args.visitor.now (tables c.args.env.now c.args.scratch.now) in
-    doing_all does Ready splits (λ n. fixes (ident n)) _ _ _ _ c.loop-n.invariant (drop_all c.loop-n.n-index c.of-n-items.result.now (omega arith))
-    ∙ ap (λ (ns : List ℕ). over does w (map (λ n. fixes (ident n)) ns)) c.of-n-items.ensures
-    ∙ ap (over does w) (sym (map_map fixes ident (part c.args.env.now.pool.now c.args.parameters)))

@@ -4,17 +4,6 @@ use Rattle.promote.proofs.Growing.{sound_grows}
 use Rattle.promote.proofs.Visiting.{grows_mark, start_sound, start_nested, start_known, start_less, visiting_none, visiting_known, visiting_more, visit_marked, visiting_all}
 use Rattle.promote.proofs.temporaries.+visit_hir_function_for_promotion.Goals as goal
 
-pub returns-then-scratch-f : goal.returns-then-scratch-f
-returns-then-scratch-f t c k l = visit_marked k (tables c.args.env.now c.args.scratch.now) c.args.id c.if-scratch-f.true
-
-pub promote_list-requires : goal.promote_list-requires
-promote_list-requires t c =
-    let b = tables c.args.env.now c.args.scratch.now in
-    record {
-      known = (c.requires.sound.functions c.args.id.0 c.requires.known).parameters;
-      sound = sound_grows c.requires.sound (grows_mark b c.args.id c.requires.sound c.requires.known);
-    }
-
 pub loop-n-init : goal.loop-n-init
 loop-n-init t c =
     let b = tables c.args.env.now c.args.scratch.now in

@@ -4,15 +4,7 @@ use Rattle.walk.specs.Events.{whole}
 use Rattle.instances.proofs.Passes.{ready_operands, ready_function, leaf_done}
 use Rattle.instances.proofs.instances.PromoteAllInstancesVisitor.enter.Goals as goal
 
-pub promote_all_instances_operands-requires : goal.promote_all_instances_operands-requires
-promote_all_instances_operands-requires g c = ready_operands c.args._parent c.args.row.now c.head-head.result.now c.head-head.ensures c.if-is.ensures _ c.requires
-
 pub promote_all_instances_function-requires : goal.promote_all_instances_function-requires
 promote_all_instances_function-requires g c =
     let ready = ready_function c.args._parent c.args.row.now c.head-head.result.now c.head-head.ensures c.if-is.ensures _ c.requires _ c.promote_all_instances_operands.ensures c.in-Some.function c.in-Some.ensures in
     record { known = ready.fits.0; sound = ready.sound }
-
-pub returns-in-Some : goal.returns-in-Some
-returns-in-Some g c =
-    ap (λ (t : Tables). whole c.args.self.now t)
-    (leaf_done c.args._parent c.args.row.now c.head-head.result.now c.head-head.ensures c.if-is.ensures _ c.requires _ c.promote_all_instances_operands.ensures c.in-Some.function c.in-Some.ensures _ c.promote_all_instances_function.ensures)

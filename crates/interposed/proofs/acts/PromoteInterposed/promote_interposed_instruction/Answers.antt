@@ -11,16 +11,6 @@ use Rattle.interposed.proofs.Kindless.{kindless}
 use Rattle.interposed.proofs.Passes.{ready_begin, ready_value, ready_uses, ready_end, leaf_done}
 use Rattle.interposed.proofs.acts.PromoteInterposed.promote_interposed_instruction.Goals as goal
 
-pub use_operands-requires : goal.use_operands-requires
-use_operands-requires g c =
-    let r = c.args.row.now in
-    subst (Ready _) (kindless r.kind (omega (arith, c.in_default.ensures.1 (omega arith), ap (λ (h : RowHead). h.kind) c.head-head.ensures)) c.args.lvalue r.mode r.marks r.operands) c.requires
-
-pub returns-in_default : goal.returns-in_default
-returns-in_default g c =
-    let r = c.args.row.now in
-    c.use_operands.ensures ∙ ap (over does _) (sym (kindless r.kind (omega (arith, c.in_default.ensures.1 (omega arith), ap (λ (h : RowHead). h.kind) c.head-head.ensures)) c.args.lvalue r.mode r.marks r.operands))
-
 -- the acts of the row, by the kind that its byte stands for
 acts_is : (r : Row) (h : RowHead) (k : Kind) (l : Option IdentifierId) → h ≡ head r → kind_number k ≡ h.kind → leaf_acts l r.kind r.mode r.marks r.operands ≡ leaf_acts l (kind_number k) h.mode r.marks r.operands
 acts_is r h k l e f = λ i. leaf_acts l (sym (f ∙ ap (λ (x : RowHead). x.kind) e) i) (sym (ap (λ (x : RowHead). x.mode) e) i) r.marks r.operands
@@ -44,10 +34,3 @@ pub end_leaf-requires : goal.end_leaf-requires
 end_leaf-requires g c =
     let r = c.args.row.now in
     ready_end c.args.lvalue (kind_number c.in-Ok.kind) c.head-head.result.now.mode r.marks r.operands _ (subst (Ready _) (acts_is r c.head-head.result.now c.in-Ok.kind c.args.lvalue c.head-head.ensures c.in-Ok.ensures) c.requires) _ c.begin_leaf.ensures _ c.load_value.ensures _ c.use_operands-2.ensures
-
-pub returns : goal.returns
-returns g c =
-    let r = c.args.row.now in
-    let e = acts_is r c.head-head.result.now c.in-Ok.kind c.args.lvalue c.head-head.ensures c.in-Ok.ensures in
-    leaf_done c.args.lvalue (kind_number c.in-Ok.kind) c.head-head.result.now.mode r.marks r.operands _ (subst (Ready _) e c.requires) _ c.begin_leaf.ensures _ c.load_value.ensures _ c.use_operands-2.ensures _ c.end_leaf.ensures
-    ∙ ap (over does _) (sym e)
