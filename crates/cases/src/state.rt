@@ -75,17 +75,17 @@ impl State {
         let full = Work {
             tag: true,
             promoted: true,
-            recorded: 1,
+            recorded: Some(Some(0)),
             escaped: true,
             constant: true,
             global: true,
-            tracked: 1,
+            tracked: Some(1),
         };
         self.work = vec![in heap; full; size.work]?;
         self.marks = vec![in heap; true; size.marks]?;
         self.trail = vec![in heap; Trail {
             scope: ScopeId(1),
-            link: 1
+            link: Some(0)
         }; size.trail]?;
         Ok(())
     }

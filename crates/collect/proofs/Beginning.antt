@@ -1,5 +1,5 @@
 -- The first pass can go over sound rows. Assumes nothing.
-use Rattle.std.proofs.Common.{◌≡◌, ℕ, ◌+◌, ◌^◌, ◌<◌, ◌≤◌, Bool, true, false, cond, eqb, leb, List, [], ◌∷◌, ◌++◌, map, length, Some, None, Option, refl, ap, append-nil, arith}
+use Rattle.std.proofs.Common.{◌≡◌, ℕ, ◌^◌, ◌<◌, ◌≤◌, Bool, true, false, cond, eqb, leb, List, [], ◌∷◌, ◌++◌, map, length, Some, None, Option, IfSome, sym, refl, ap, subst, append-nil, arith}
 use Rattle.std.proofs.lemmas.Bool.{cond_both}
 use Rattle.hir.specs.declared.ids.ScopeId.{ScopeId}
 use Rattle.hir.specs.Environments.{Model}
@@ -13,6 +13,7 @@ use Rattle.reactive.specs.Rows.{Row, head}
 use Rattle.reactive.specs.Sound.{HeadSound, RowSound}
 use Rattle.walk.specs.Events.{Event, entering, leaving, closing, staying, innermost_of, events, acts_of}
 use Rattle.walk.proofs.Fitting.{Within, each_acts, each_append, each_cond, each_map, each_listed}
+use Rattle.collect.specs.Links.{reach}
 use Rattle.collect.specs.Promotable.{Act, opens, shuts, prunes, sees, flags, leaf_acts, row_acts, acts, pass_acts, Fits, openings, scope_rows, Ready, begun}
 use Rattle.collect.proofs.Keeping.{openings_append}
 
@@ -99,11 +100,11 @@ openings_events around (r ∷ rs) =
 pub few_openings : (rs : List Row) → openings (pass_acts rs) ≤ scope_rows rs
 few_openings rs = openings_events [] rs
 
-pub ready_begun : (t : Tables) (rs : List Row) → Sound t → ((d : ℕ) → (work_of t.notes d).recorded ≡ 0) → openings (pass_acts rs) ≤ length t.notes.trail → openings (pass_acts rs) + 1 < 2 ^ 32 → Each (RowSound t.env) rs → Ready (begun t) (pass_acts rs)
+pub ready_begun : (t : Tables) (rs : List Row) → Sound t → ((d : ℕ) → (work_of t.notes d).recorded ≡ None) → openings (pass_acts rs) ≤ length t.notes.trail → openings (pass_acts rs) < 2 ^ 32 → Each (RowSound t.env) rs → Ready (begun t) (pass_acts rs)
 ready_begun t rs sound fresh room low rows =
     record {
       sound = sound;
-      linked = record { innermost = omega arith; down = λ j h. absurd (omega arith); recorded = λ d. omega (arith, fresh d) };
+      linked = record { innermost = omega arith; down = λ j h. absurd (omega arith); recorded = λ d. subst (λ o. IfSome o (λ l. reach l ≤ 0)) (sym (fresh d)) tt };
       fits = each_acts (RowSound t.env) (HeadSound t.env) (λ r k. k.names) acts (Fits t.env) (fits_enter t.env) (fits_leave t.env) [] rs tt rows;
       room = omega arith;
       low = omega arith;

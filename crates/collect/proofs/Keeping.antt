@@ -1,7 +1,8 @@
 -- What the first pass keeps. Assumes nothing.
-use Rattle.std.proofs.Common.{◌≡◌, ℕ, zero, suc, ◌+◌, ◌-◌, ◌<◌, ◌≤◌, eqb, List, [], ◌∷◌, ◌++◌, length, get_or, set, sym, refl, ap, ◌∙◌, subst, ⊎_elim, arith, length-set, get_or-set_other, get_or-set_same}
-use Rattle.std.proofs.lemmas.Bool.{cases_eq, cond_both, eqb-false}
+use Rattle.std.proofs.Common.{◌≡◌, ℕ, zero, suc, ◌+◌, ◌<◌, ◌≤◌, List, [], ◌∷◌, ◌++◌, Some, None, Option, IfSome, length, get_or, set, sym, refl, ap, ◌∙◌, subst, ⊎_elim, arith, length-set, get_or-set_other, get_or-set_same}
+use Rattle.std.proofs.lemmas.Bool.{cases_eq, cond_both}
 use Rattle.hir.specs.declared.ids.IdentifierId.{IdentifierId}
+use Rattle.hir.specs.declared.ids.ScopeId.{ScopeId}
 use Rattle.hir.specs.declared.scratch.Trail.{Trail}
 use Rattle.hir.specs.declared.scratch.Work.{Work}
 use Rattle.hir.specs.Environments.{Model}
@@ -15,11 +16,16 @@ use Rattle.walk.proofs.Fitting.{each_front}
 use Rattle.promote.specs.Growth.{Grows, Named, none}
 use Rattle.promote.proofs.Growing.{grows_none, grows_trans, sound_grows}
 use Rattle.collect.specs.declared.promotable.CollectPromotable.{CollectPromotable}
-use Rattle.collect.specs.Promotable.{Act, opens, shuts, prunes, sees, flags, as_tag, as_recorded, as_escaped, work_by, noting, recorded_at, escapes_at, used_at, with_trail, trail_row, around, declared_in, does, pass_acts, Fits, openings, Linked, Ready, begun, collected}
+use Rattle.collect.specs.Links.{trail_of, reach}
+use Rattle.collect.specs.Promotable.{Act, opens, shuts, prunes, sees, flags, as_tag, as_recorded, as_escaped, work_by, noting, recorded_at, escapes_at, used_at, with_trail, trail_row, around, at, declared_in, does, pass_acts, Fits, openings, Linked, Ready, begun, collected}
+
+-- a recorded link leads to one of these rows
+abbrev pub Within : ℕ → Work → Type 0
+Within used w = IfSome w.recorded (λ l. reach l ≤ used)
 
 -- no recorded link leads past these rows
 abbrev pub Below : ℕ → Notes → Type 0
-Below used n = (d : ℕ) → (work_of n d).recorded ≤ used + 1
+Below used n = (d : ℕ) → Within used (work_of n d)
 
 -- only work rows were changed
 pub record Noted (used : ℕ) (b t : Tables) : Type 0 where
@@ -36,26 +42,26 @@ noted_trans : {used : ℕ} {a b c : Tables} → Noted used a b → Noted used b 
 noted_trans x y =
     record { env = y.env ∙ x.env; work = y.work ∙ x.work; marks = y.marks ∙ x.marks; trail = y.trail ∙ x.trail; recorded = λ h. y.recorded (x.recorded h) }
 
-set_below : (ws : List Work) (i k n : ℕ) (w : Work) → w.recorded ≤ n → (get_or ws k no_work).recorded ≤ n → (get_or (set ws i w) k no_work).recorded ≤ n
-set_below [] i k n w h g = g
-set_below (x ∷ ws) zero zero n w h g = h
-set_below (x ∷ ws) zero (suc k) n w h g = g
-set_below (x ∷ ws) (suc i) zero n w h g = g
-set_below (x ∷ ws) (suc i) (suc k) n w h g = set_below ws i k n w h g
+set_within : (used : ℕ) (ws : List Work) (i k : ℕ) (w : Work) → Within used w → Within used (get_or ws k no_work) → Within used (get_or (set ws i w) k no_work)
+set_within used [] i k w h g = g
+set_within used (x ∷ ws) zero zero w h g = h
+set_within used (x ∷ ws) zero (suc k) w h g = g
+set_within used (x ∷ ws) (suc i) zero w h g = g
+set_within used (x ∷ ws) (suc i) (suc k) w h g = set_within used ws i k w h g
 
 -- one work row was changed
-noted_noting : (used : ℕ) (f : Work → Work) (t : Tables) (i : IdentifierId) → (Below used t.notes → (f (work_by t i)).recorded ≤ used + 1) → Noted used t (noting f t i)
+noted_noting : (used : ℕ) (f : Work → Work) (t : Tables) (i : IdentifierId) → (Below used t.notes → Within used (f (work_by t i))) → Noted used t (noting f t i)
 noted_noting used f t i low =
-    record { env = refl; work = length-set _ _ _; marks = refl; trail = refl; recorded = λ h k. set_below t.notes.work _ k (used + 1) (f (work_by t i)) (low h) (h k) }
+    record { env = refl; work = length-set _ _ _; marks = refl; trail = refl; recorded = λ h k. set_within used t.notes.work _ k (f (work_by t i)) (low h) (h k) }
 
-noted_recorded : (used innermost : ℕ) → innermost ≤ used → (t : Tables) (i : IdentifierId) → Noted used t (recorded_at innermost t i)
-noted_recorded used innermost low t i = noted_noting used (as_recorded innermost) t i (λ h. omega arith)
+noted_recorded : (used : ℕ) (innermost : Option ℕ) → reach innermost ≤ used → (t : Tables) (i : IdentifierId) → Noted used t (recorded_at innermost t i)
+noted_recorded used innermost low t i = noted_noting used (as_recorded innermost) t i (λ h. low)
 
-noted_each : (used innermost : ℕ) → innermost ≤ used → (t : Tables) (is : List IdentifierId) → Noted used t (over (recorded_at innermost) t is)
+noted_each : (used : ℕ) (innermost : Option ℕ) → reach innermost ≤ used → (t : Tables) (is : List IdentifierId) → Noted used t (over (recorded_at innermost) t is)
 noted_each used innermost low t [] = noted_none used t
 noted_each used innermost low t (i ∷ is) = noted_trans (noted_recorded used innermost low t i) (noted_each used innermost low (recorded_at innermost t i) is)
 
-noted_used : (used innermost : ℕ) (t : Tables) (i : IdentifierId) → Noted used t (used_at innermost t i)
+noted_used : (used : ℕ) (innermost : Option ℕ) (t : Tables) (i : IdentifierId) → Noted used t (used_at innermost t i)
 noted_used used innermost t i =
     cond_both (escapes_at innermost t.notes (work_by t i)) (noting as_escaped t i) t (Noted used t)
     (λ e. noted_noting used as_escaped t i (λ h. h _)) (λ e. noted_none used t)
@@ -64,14 +70,14 @@ grows_noted : {used : ℕ} {b t : Tables} → Noted used b t → Grows b t
 grows_noted {b = b} n = record { rows = []; named = subst (Named b.env []) (sym n.env) none; work = n.work; marks = ap length n.marks; trail = ap length n.trail }
 
 -- one declaration is recorded
-pub grows_recorded : (innermost : ℕ) (t : Tables) (i : IdentifierId) → Sound t → Known t.env i → Grows t (recorded_at innermost t i)
-grows_recorded innermost t i s h = grows_noted (noted_recorded innermost innermost (omega arith) t i)
+pub grows_recorded : (innermost : Option ℕ) (t : Tables) (i : IdentifierId) → Sound t → Known t.env i → Grows t (recorded_at innermost t i)
+grows_recorded innermost t i s h = grows_noted (noted_recorded (reach innermost) innermost (omega arith) t i)
 
 linked_noted : (v : CollectPromotable) (b t : Tables) → Linked v b.notes → Noted v.used b t → Linked v t.notes
 linked_noted v b t l n =
     record {
       innermost = l.innermost;
-      down = λ j h. let e = ap (λ (ts : List Trail). (get_or ts j no_trail).link) n.trail in omega (arith, e, l.down j h);
+      down = λ j h. let e = ap (λ (ts : List Trail). reach (trail_of ts j).link) n.trail in omega (arith, e, l.down j h);
       recorded = n.recorded l.recorded;
     }
 
@@ -87,39 +93,40 @@ ready_noted v b t a more r e n =
     }
 
 -- a scope is opened: the new row leads to an earlier one, as those before it do
-down_open : (trail : List Trail) (used j : ℕ) (r : Trail) → used < length trail → r.link ≤ used → ((k : ℕ) → k < used → (get_or trail k no_trail).link ≤ k) → j < used + 1 → (get_or (set trail used r) j no_trail).link ≤ j
+down_open : (trail : List Trail) (used j : ℕ) (r : Trail) → used < length trail → reach r.link ≤ used → ((k : ℕ) → k < used → reach (trail_of trail k).link ≤ k) → j < used + 1 → reach (trail_of (set trail used r) j).link ≤ j
 down_open trail used j r room low down h =
     ⊎_elim
     (λ e.
-    let P : ℕ → Type 0 = λ k. (get_or (set trail used r) k no_trail).link ≤ k in
-    let f = ap (λ (x : Trail). x.link) (get_or-set_same trail used r no_trail room) in
-    let g : (get_or (set trail used r) used no_trail).link ≤ used = omega (arith, f) in
+    let P : ℕ → Type 0 = λ k. reach (trail_of (set trail used r) k).link ≤ k in
+    let f = ap (λ (x : Trail). reach x.link) (get_or-set_same trail used r no_trail room) in
+    let g : reach (trail_of (set trail used r) used).link ≤ used = omega (arith, f) in
     subst P (sym e) g)
-    (λ ne. let f = ap (λ (x : Trail). x.link) (get_or-set_other trail used j r no_trail ne) in let d = down j (omega arith) in omega (arith, f, d))
+    (λ ne. let f = ap (λ (x : Trail). reach x.link) (get_or-set_other trail used j r no_trail ne) in let d = down j (omega arith) in omega (arith, f, d))
     (cases_eq j used)
 
-linked_open : (v : CollectPromotable) (n : Notes) (r : Trail) → v.used < length n.trail → r.link ≡ v.innermost → Linked v n → Linked (record { innermost = v.used + 1; used = v.used + 1 }) (with_trail n v.used r)
-linked_open v n r room e l =
+-- what leads to one of these rows leads to one of them and another
+within_more : (used : ℕ) (o : Option (Option ℕ)) → IfSome o (λ l. reach l ≤ used) → IfSome o (λ l. reach l ≤ used + 1)
+within_more used None h = tt
+within_more used (Some l) h = omega arith
+
+linked_open : (v : CollectPromotable) (n : Notes) (s : ScopeId) → v.used < length n.trail → Linked v n → Linked (at (Some v.used) (v.used + 1)) (with_trail n v.used (trail_row s v.innermost))
+linked_open v n s room l =
     record {
       innermost = omega arith;
-      down = λ j h. down_open n.trail v.used j r room (omega (arith, e, l.innermost)) l.down h;
-      recorded = λ d. omega (arith, l.recorded d);
+      down = λ j h. down_open n.trail v.used j (trail_row s v.innermost) room l.innermost l.down h;
+      recorded = λ d. within_more v.used (work_of n d).recorded (l.recorded d);
     }
 
 -- a scope is shut: the link around it is one of a row in use
-around_low : (v : CollectPromotable) (n : Notes) → Linked v n → around n v.innermost ≤ v.used
-around_low v n l =
-    cond_both (eqb v.innermost 0) 0 _ (λ k. k ≤ v.used) (λ e. omega arith)
-    (λ e.
-    let ne = eqb-false v.innermost 0 e in
-    let d = l.down (v.innermost - 1) (omega (arith, ne, l.innermost)) in
-    omega (arith, d, l.innermost))
+around_low : (used : ℕ) (n : Notes) (l : Option ℕ) → ((j : ℕ) → j < used → reach (trail_of n.trail j).link ≤ j) → reach l ≤ used → reach (around n l) ≤ used
+around_low used n None down h = h
+around_low used n (Some j) down h = let d = down j (omega arith) in omega (arith, d)
 
 ready_does : (w : Whole CollectPromotable) (a : Act) (more : List Act) → Ready w (a ∷ more) → Ready (does w a) more
 ready_does w (opens s) more r =
     record {
       sound = sound_grows r.sound (record { rows = []; named = none; work = refl; marks = refl; trail = length-set _ _ _ });
-      linked = linked_open w.visitor w.tables.notes (trail_row s w.visitor.innermost) (omega (arith, r.room)) refl r.linked;
+      linked = linked_open w.visitor w.tables.notes s (omega (arith, r.room)) r.linked;
       fits = r.fits.1;
       room = simp length-set (omega (arith, r.room));
       low = omega (arith, r.low);
@@ -127,7 +134,7 @@ ready_does w (opens s) more r =
 ready_does w shuts more r =
     record {
       sound = r.sound;
-      linked = record { innermost = around_low w.visitor w.tables.notes r.linked; down = r.linked.down; recorded = r.linked.recorded };
+      linked = record { innermost = around_low w.visitor.used w.tables.notes w.visitor.innermost r.linked.down r.linked.innermost; down = r.linked.down; recorded = r.linked.recorded };
       fits = r.fits.1;
       room = r.room;
       low = r.low;
@@ -156,16 +163,16 @@ splits = record {
 grows_does : (w : Whole CollectPromotable) (a : Act) → Grows w.tables (does w a).tables
 grows_does w (opens s) = record { rows = []; named = none; work = refl; marks = refl; trail = length-set _ _ _ }
 grows_does w shuts = grows_none w.tables
-grows_does w (prunes s) = grows_noted (noted_each w.visitor.innermost w.visitor.innermost (omega arith) w.tables (declared_in w.tables.env s))
-grows_does w (sees i) = grows_noted (noted_used w.visitor.innermost w.visitor.innermost w.tables i)
-grows_does w (flags i) = grows_noted (noted_noting w.visitor.innermost as_tag w.tables i (λ h. h _))
+grows_does w (prunes s) = grows_noted (noted_each (reach w.visitor.innermost) w.visitor.innermost (omega arith) w.tables (declared_in w.tables.env s))
+grows_does w (sees i) = grows_noted (noted_used w.visitor.used w.visitor.innermost w.tables i)
+grows_does w (flags i) = grows_noted (noted_noting w.visitor.used as_tag w.tables i (λ h. h _))
 
 -- an act leaves the environment
 env_does : (w : Whole CollectPromotable) (a : Act) → (does w a).tables.env ≡ w.tables.env
 env_does w (opens s) = refl
 env_does w shuts = refl
-env_does w (prunes s) = (noted_each w.visitor.innermost w.visitor.innermost (omega arith) w.tables (declared_in w.tables.env s)).env
-env_does w (sees i) = (noted_used w.visitor.innermost w.visitor.innermost w.tables i).env
+env_does w (prunes s) = (noted_each (reach w.visitor.innermost) w.visitor.innermost (omega arith) w.tables (declared_in w.tables.env s)).env
+env_does w (sees i) = (noted_used w.visitor.used w.visitor.innermost w.tables i).env
 env_does w (flags i) = refl
 
 grows_over : (w : Whole CollectPromotable) (todo : List Act) → Grows w.tables (over does w todo).tables

@@ -1,12 +1,12 @@
 -- The first pass on the tables: its acts and what each does. Assumes nothing.
-use Rattle.std.specs.Prelude.{ℕ, ◌+◌, ◌-◌, ◌^◌, ◌<◌, ◌≤◌, Bool, true, false, cond, not, ◌&&◌, List, [], ◌∷◌, ◌++◌, map, length, ◌==◌, slice_index_or, slice_set}
+use Rattle.std.specs.Prelude.{ℕ, ◌+◌, ◌^◌, ◌<◌, ◌≤◌, Bool, true, false, cond, not, List, [], ◌∷◌, ◌++◌, Some, None, Option, IfSome, map, length, ◌==◌, slice_set}
 use Rattle.hir.specs.declared.ids.IdentifierId.{IdentifierId}
 use Rattle.hir.specs.declared.ids.ScopeId.{ScopeId}
 use Rattle.hir.specs.declared.scratch.Trail.{Trail}
 use Rattle.hir.specs.declared.scratch.Work.{Work}
 use Rattle.hir.specs.Environments.{Model, declaration_of, scope_of}
 use Rattle.hir.specs.Lists.{over, Each}
-use Rattle.hir.specs.Scratches.{Notes, Tables, both, work_of, no_trail}
+use Rattle.hir.specs.Scratches.{Notes, Tables, both, work_of}
 use Rattle.hir.specs.Sound.{Sound, Known}
 use Rattle.hir.specs.Spans.{identifiers_in}
 use Rattle.reactive.specs.declared.code.Code.TheVariants as codes
@@ -16,7 +16,7 @@ use Rattle.reactive.specs.Rows.{Row, is}
 use Rattle.walk.specs.Events.{Whole, whole, Event, entering, leaving, events, acts_of}
 use Rattle.promote.specs.Identifier.{with_work}
 use Rattle.collect.specs.declared.promotable.CollectPromotable.{CollectPromotable}
-use Rattle.collect.specs.Links.{trail_of, is_along}
+use Rattle.collect.specs.Links.{trail_of, reach, is_along}
 
 -- a Scope row is entered or left, a Pruned row comes, an identifier is used, or it is a JSX tag
 pub data Act : Type 0 where
@@ -31,8 +31,8 @@ abbrev pub as_tag : Work → Work
 as_tag w = record { tag = true; promoted = w.promoted; recorded = w.recorded; escaped = w.escaped; constant = w.constant; global = w.global; tracked = w.tracked }
 
 -- a declaration recorded under this link, with no escape since
-abbrev pub as_recorded : ℕ → Work → Work
-as_recorded l w = record { tag = w.tag; promoted = w.promoted; recorded = l + 1; escaped = false; constant = w.constant; global = w.global; tracked = w.tracked }
+abbrev pub as_recorded : Option ℕ → Work → Work
+as_recorded l w = record { tag = w.tag; promoted = w.promoted; recorded = Some l; escaped = false; constant = w.constant; global = w.global; tracked = w.tracked }
 
 -- a declaration that was used in another scope
 abbrev pub as_escaped : Work → Work
@@ -47,17 +47,21 @@ abbrev pub noting : (Work → Work) → Tables → IdentifierId → Tables
 noting f t i = both t.env (with_work t.notes (declaration_of t.env i.0) (f (work_by t i)))
 
 -- a declaration is recorded under the innermost active scope, which takes an escape back
-abbrev pub recorded_at : ℕ → Tables → IdentifierId → Tables
+abbrev pub recorded_at : Option ℕ → Tables → IdentifierId → Tables
 recorded_at innermost t i = noting (as_recorded innermost) t i
 
+-- a link was recorded and some scope is active, and the innermost is not among those along that link
+abbrev pub is_outside : List Trail → Option (Option ℕ) → Option ℕ → Bool
+is_outside trail None innermost = false
+is_outside trail (Some l) None = false
+is_outside trail (Some l) (Some j) = not (is_along trail l (trail_of trail j).scope.0)
+
 -- the declaration was recorded, and the innermost active scope is not among those active then
-abbrev pub escapes_at : ℕ → Notes → Work → Bool
-escapes_at innermost n w =
-    not (w.recorded == 0)
-    && (not (innermost == 0) && not (is_along n.trail (w.recorded - 1) (trail_of n.trail innermost).scope.0))
+abbrev pub escapes_at : Option ℕ → Notes → Work → Bool
+escapes_at innermost n w = is_outside n.trail w.recorded innermost
 
 -- a declaration is used under the innermost active scope
-abbrev pub used_at : ℕ → Tables → IdentifierId → Tables
+abbrev pub used_at : Option ℕ → Tables → IdentifierId → Tables
 used_at innermost t i = cond (escapes_at innermost t.notes (work_by t i)) (noting as_escaped t i) t
 
 -- what a scope declares
@@ -69,21 +73,22 @@ abbrev pub with_trail : Notes → ℕ → Trail → Notes
 with_trail n i r = record { work = n.work; marks = n.marks; trail = slice_set n.trail i r }
 
 -- an active scope and the link of the one around it
-abbrev pub trail_row : ScopeId → ℕ → Trail
+abbrev pub trail_row : ScopeId → Option ℕ → Trail
 trail_row s l = record { scope = s; link = l }
 
 -- the link of the scope around the innermost active one
-abbrev pub around : Notes → ℕ → ℕ
-around n innermost = cond (innermost == 0) 0 (trail_of n.trail innermost).link
+abbrev pub around : Notes → Option ℕ → Option ℕ
+around n None = None
+around n (Some j) = (trail_of n.trail j).link
 
 -- the pass under this link, with so many trail rows in use
-abbrev pub at : ℕ → ℕ → CollectPromotable
+abbrev pub at : Option ℕ → ℕ → CollectPromotable
 at innermost used = record { innermost = innermost; used = used }
 
 -- what an act does to the pass and the tables
 abbrev pub does : Whole CollectPromotable → Act → Whole CollectPromotable
 does w (opens s) =
-    whole (at (w.visitor.used + 1) (w.visitor.used + 1))
+    whole (at (Some w.visitor.used) (w.visitor.used + 1))
     (both w.tables.env (with_trail w.tables.notes w.visitor.used (trail_row s w.visitor.innermost)))
 does w shuts = whole (at (around w.tables.notes w.visitor.innermost) w.visitor.used) w.tables
 does w (prunes s) = whole w.visitor (over (recorded_at w.visitor.innermost) w.tables (declared_in w.tables.env s))
@@ -134,9 +139,9 @@ scope_rows (r ∷ rs) = cond (r.code == 3) 1 0 + scope_rows rs
 
 -- every trail row in use leads to an earlier one, and every recorded link to a row in use
 pub record Linked (v : CollectPromotable) (n : Notes) : Type 0 where
-  pub innermost : v.innermost ≤ v.used
-  pub down : (j : ℕ) → j < v.used → (slice_index_or n.trail j no_trail).link ≤ j
-  pub recorded : (d : ℕ) → (work_of n d).recorded ≤ v.used + 1
+  pub innermost : reach v.innermost ≤ v.used
+  pub down : (j : ℕ) → j < v.used → reach (trail_of n.trail j).link ≤ j
+  pub recorded : (d : ℕ) → IfSome (work_of n d).recorded (λ l. reach l ≤ v.used)
 
 -- the acts can be done
 pub record Ready (w : Whole CollectPromotable) (todo : List Act) : Type 0 where
@@ -144,7 +149,7 @@ pub record Ready (w : Whole CollectPromotable) (todo : List Act) : Type 0 where
   pub linked : Linked w.visitor w.tables.notes
   pub fits : Each (Fits w.tables.env) todo
   pub room : w.visitor.used + openings todo ≤ length w.tables.notes.trail
-  pub low : w.visitor.used + openings todo + 1 < 2 ^ 32
+  pub low : w.visitor.used + openings todo < 2 ^ 32
 
 -- what an event needs
 abbrev pub Readies : Whole CollectPromotable → Event → Type 0
@@ -152,7 +157,7 @@ Readies w e = Ready w (acts e)
 
 -- no scope is active, and no trail row in use
 abbrev pub begun : Tables → Whole CollectPromotable
-begun t = whole (at 0 0) t
+begun t = whole (at None 0) t
 
 -- what the rows leave
 abbrev pub collected : Tables → List Row → Tables

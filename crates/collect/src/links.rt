@@ -3,20 +3,20 @@ ghost use Rattle.std.specs.Prelude.{◌≡◌};
 ghost use Rattle.collect.specs.Links.{Leads, is_along};
 
 use hir::ids::ScopeId;
-use hir::scratch::Trail;
+use hir::scratch::{Link, Trail};
 
 // Whether a scope is among those along a link.
-pub fn is_along(trail: &[Trail], link: u32, scope: ScopeId) -> bool
+pub fn is_along(trail: &[Trail], link: Link, scope: ScopeId) -> bool
     requires { Leads trail.now link }
     ensures { result ≡ is_along trail.now link scope.0 }
 {
     let mut at = link;
-    while at > 0 {
-        let row = trail[at as usize - 1];
-        if row.scope == scope {
+    while let Some(row) = at {
+        let active = trail[row as usize];
+        if active.scope == scope {
             return true;
         }
-        at = row.link;
+        at = active.link;
     }
     false
 }

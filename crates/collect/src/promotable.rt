@@ -1,18 +1,18 @@
 // The first pass over a tree, which only notes in scratch what later passes name.
-ghost use Rattle.std.specs.Prelude.{◌≡◌, ◌+◌, ◌-◌, ◌^◌, ◌<◌, ◌≤◌, [], ◌∷◌, map, length};
+ghost use Rattle.std.specs.Prelude.{◌≡◌, ◌+◌, ◌^◌, ◌<◌, ◌≤◌, [], ◌∷◌, Some, IfSome, map, length};
 ghost use Rattle.hir.specs.Environments.{model};
 ghost use Rattle.hir.specs.Lists.{over, Each};
 ghost use Rattle.hir.specs.Scratches.{tables, noted};
 ghost use Rattle.hir.specs.Sound.{Sound, Known};
 ghost use Rattle.reactive.specs.Rows.{rewound};
 ghost use Rattle.walk.specs.Events.{whole, Shallow, acting};
-ghost use Rattle.collect.specs.Links.{Leads};
+ghost use Rattle.collect.specs.Links.{Leads, reach};
 ghost use Rattle.collect.specs.Promotable.{prunes, sees, flags, recorded_at, escapes_at, trail_row, with_trail, around, at, does, leaf_acts, acts, Ready, Readies, pass_acts, begun, collected};
 
 use crate::links::is_along;
 use hir::environment::Environment;
 use hir::ids::{IdentifierId, ScopeId};
-use hir::scratch::{Scratch, Trail, Work};
+use hir::scratch::{Link, Scratch, Trail, Work};
 use reactive::code::Code;
 use reactive::given::GivenRow;
 use reactive::kind::Kind;
@@ -24,8 +24,8 @@ use walk::walking::walk;
 // The first pass.
 #[derive(Clone, Copy)]
 pub struct CollectPromotable {
-    // the link of the innermost active scope: 0 for none, else one more than its trail row
-    pub innermost: u32,
+    // the link of the innermost active scope
+    pub innermost: Link,
     // how many trail rows are in use
     pub used: u32,
 }
@@ -35,24 +35,24 @@ impl CollectPromotable {
     fn open_scope(&mut self, scratch: &mut Scratch, scope: ScopeId)
         requires room { self.old.used < length scratch.old.trail.now }
         requires low { self.old.used + 1 < 2 ^ 32 }
-        ensures visitor { self.new ≡ at (self.old.used + 1) (self.old.used + 1) }
+        ensures visitor { self.new ≡ at (Some self.old.used) (self.old.used + 1) }
         ensures notes { noted scratch.new ≡ with_trail (noted scratch.old) self.old.used (trail_row scope self.old.innermost) }
     {
         scratch.trail[self.used as usize] = Trail {
             scope,
             link: self.innermost,
         };
+        self.innermost = Some(self.used);
         self.used += 1;
-        self.innermost = self.used;
     }
 
     // A Scope row is left: the scope around its own is the innermost again.
     fn shut_scope(&mut self, scratch: &Scratch)
-        requires { self.old.innermost ≤ length scratch.now.trail.now }
+        requires { reach self.old.innermost ≤ length scratch.now.trail.now }
         ensures { self.new ≡ at (around (noted scratch.now) self.old.innermost) self.old.used }
     {
-        if self.innermost > 0 {
-            self.innermost = scratch.trail[self.innermost as usize - 1].link;
+        if let Some(row) = self.innermost {
+            self.innermost = scratch.trail[row as usize].link;
         }
     }
 
@@ -60,12 +60,11 @@ impl CollectPromotable {
     fn record_pruned(self, env: &Environment, scratch: &mut Scratch, id: IdentifierId)
         requires known { Known (model env.now) id }
         requires sound { Sound (tables env.now scratch.old) }
-        requires low { self.innermost + 1 < 2 ^ 32 }
         ensures { tables env.now scratch.new ≡ recorded_at self.innermost (tables env.now scratch.old) id }
     {
         let d = env.declaration(id).0 as usize;
         let mut work = scratch.work[d];
-        work.recorded = self.innermost + 1;
+        work.recorded = Some(self.innermost);
         work.escaped = false;
         scratch.work[d] = work;
     }
@@ -83,15 +82,15 @@ impl CollectPromotable {
 
     // Whether a use here lets a declaration escape: the innermost active scope was not active at its recording.
     fn escapes(self, scratch: &Scratch, work: Work) -> bool
-        requires innermost { self.innermost ≤ length scratch.now.trail.now }
-        requires leads { Leads scratch.now.trail.now (work.recorded - 1) }
+        requires innermost { reach self.innermost ≤ length scratch.now.trail.now }
+        requires leads { IfSome work.recorded (λ link. Leads scratch.now.trail.now link) }
         ensures { result ≡ escapes_at self.innermost (noted scratch.now) work }
     {
-        if work.recorded == 0 || self.innermost == 0 {
+        let (Some(link), Some(row)) = (work.recorded, self.innermost) else {
             return false;
-        }
-        let scope = scratch.trail[self.innermost as usize - 1].scope;
-        !is_along(scratch.trail, work.recorded - 1, scope)
+        };
+        let scope = scratch.trail[row as usize].scope;
+        !is_along(scratch.trail, link, scope)
     }
 
     // A use of an identifier: its declaration may escape.
@@ -209,7 +208,7 @@ pub fn collect_promotable<S: TreeSource>(
     ensures source { S.TreeSource.reading source.new ≡ rewound (S.TreeSource.reading source.old) }
 {
     let mut visitor = CollectPromotable {
-        innermost: 0,
+        innermost: None,
         used: 0,
     };
     walk(source, &mut visitor, env, scratch);

@@ -1,5 +1,5 @@
 -- What scratch holds. Assumes nothing.
-use Rattle.std.specs.Prelude.{ℕ, Bool, false, List, length, replicate, slice_index_or}
+use Rattle.std.specs.Prelude.{ℕ, Bool, false, List, length, replicate, slice_index_or, None}
 use Rattle.hir.specs.declared.scratch.Work.{Work}
 use Rattle.hir.specs.declared.scratch.Trail.{Trail}
 use Rattle.hir.specs.declared.scratch.Scratch.{Scratch}
@@ -15,10 +15,10 @@ abbrev pub noted : Scratch → Notes
 noted s = record { work = s.work.now; marks = s.marks.now; trail = s.trail.now }
 
 abbrev pub no_work : Work
-no_work = record { tag = false; promoted = false; recorded = 0; escaped = false; constant = false; global = false; tracked = 0 }
+no_work = record { tag = false; promoted = false; recorded = None; escaped = false; constant = false; global = false; tracked = None }
 
 abbrev pub no_trail : Trail
-no_trail = record { scope = record { 0 = 0 }; link = 0 }
+no_trail = record { scope = record { 0 = 0 }; link = None }
 
 -- scratch in which nothing is noted; the trail keeps what it held, which no pass reads
 abbrev pub blank : Notes → Notes

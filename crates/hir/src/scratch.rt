@@ -3,6 +3,9 @@ ghost use Rattle.hir.specs.Scratches.{noted, blank};
 
 use crate::ids::ScopeId;
 
+// The trail row of an active scope, or none.
+pub type Link = Option<u32>;
+
 // What a run notes of an identifier (constant, global, tracked) and of a declaration (the rest).
 #[derive(Clone, Copy, Default, PartialEq)]
 pub struct Work {
@@ -10,21 +13,21 @@ pub struct Work {
     pub tag: bool,
     // this run named an identifier of the declaration
     pub promoted: bool,
-    // 0 where no Pruned row recorded the declaration, else one more than the trail link at its last recording
-    pub recorded: u32,
+    // the link of the innermost active scope when a Pruned row last recorded the declaration
+    pub recorded: Option<Link>,
     // it was used in another scope since
     pub escaped: bool,
     pub constant: bool,
     pub global: bool,
-    // 0 where the identifier was never tracked, else the epoch of its last tracking
-    pub tracked: u32,
+    // the epoch in which the identifier was last tracked
+    pub tracked: Option<u32>,
 }
 
-// An active scope, and the link of the one around it: 0 for none, else one more than its trail row.
+// An active scope, and the link of the one around it.
 #[derive(Clone, Copy, PartialEq)]
 pub struct Trail {
     pub scope: ScopeId,
-    pub link: u32,
+    pub link: Link,
 }
 
 // Handed on beside the environment and not in one struct with it, whose methods would each have to ensure that both references stay the same.

@@ -1,5 +1,5 @@
 -- The acts of the third pass on the tables. Assumes nothing.
-use Rattle.std.specs.Prelude.{ℕ, ◌+◌, ◌^◌, ◌<◌, Bool, true, cond, not, ◌&&◌, ◌||◌, List, [], ◌∷◌, Some, None, Option, nat_lt}
+use Rattle.std.specs.Prelude.{ℕ, ◌+◌, ◌^◌, ◌<◌, Bool, true, false, cond, not, ◌&&◌, ◌||◌, List, [], ◌∷◌, Some, None, Option, nat_lt}
 use Rattle.hir.specs.declared.ids.IdentifierId.{IdentifierId}
 use Rattle.hir.specs.declared.scratch.Work.{Work}
 use Rattle.hir.specs.declared.tables.Reason.TheVariants as reasons
@@ -44,11 +44,16 @@ abbrev pub as_global : Bool → Work → Work
 as_global b x = record { tag = x.tag; promoted = x.promoted; recorded = x.recorded; escaped = x.escaped; constant = x.constant; global = x.global || b; tracked = x.tracked }
 
 abbrev pub as_tracked : ℕ → Work → Work
-as_tracked e x = record { tag = x.tag; promoted = x.promoted; recorded = x.recorded; escaped = x.escaped; constant = x.constant; global = x.global; tracked = e }
+as_tracked e x = record { tag = x.tag; promoted = x.promoted; recorded = x.recorded; escaped = x.escaped; constant = x.constant; global = x.global; tracked = Some e }
+
+-- in an epoch before this one
+abbrev pub is_before : ℕ → Option ℕ → Bool
+is_before e None = false
+is_before e (Some t) = nat_lt t e
 
 -- tracked, with a barrier since
 abbrev pub exposed : ℕ → Work → Bool
-exposed e x = nat_lt 0 x.tracked && nat_lt x.tracked e
+exposed e x = is_before e x.tracked
 
 -- a use names what is unnamed, not constant and exposed
 abbrev pub found : State → IdentifierId → Bool

@@ -22,7 +22,7 @@ impl PromoteInterposed {
         ensures { whole self.now (tables env.new scratch.new) ≡ does (whole self.now (tables env.old scratch.old)) (uses id) }
     {
         let work = scratch.work[id.0 as usize];
-        let exposed = 0 < work.tracked && work.tracked < self.epoch;
+        let exposed = work.tracked.is_some_and(|epoch| epoch < self.epoch);
         promote_if(
             env,
             scratch,
@@ -55,7 +55,7 @@ impl PromoteInterposed {
             let i = lvalue.0 as usize;
             let mut work = scratch.work[i];
             work.constant = work.constant || scratch.work[from.0 as usize].constant;
-            work.tracked = self.epoch;
+            work.tracked = Some(self.epoch);
             scratch.work[i] = work;
         }
     }
@@ -77,7 +77,7 @@ impl PromoteInterposed {
         work.global = work.global || global;
         work.constant = work.constant || global;
         if env.is_unnamed(lvalue) {
-            work.tracked = self.epoch;
+            work.tracked = Some(self.epoch);
         }
         scratch.work[i] = work;
     }
@@ -109,7 +109,7 @@ impl PromoteInterposed {
         ensures { whole self.now (tables env.now scratch.new) ≡ does (whole self.now (tables env.now scratch.old)) (tracks lvalue) }
     {
         if env.is_unnamed(lvalue) {
-            scratch.work[lvalue.0 as usize].tracked = self.epoch;
+            scratch.work[lvalue.0 as usize].tracked = Some(self.epoch);
         }
     }
 }

@@ -39,7 +39,7 @@ fn name_panel(
     let mut marks = [false; 0];
     let mut trail = [Trail {
         scope: ScopeId(0),
-        link: 0,
+        link: None,
     }; ROWS];
     let mut scratch = Scratch {
         work: &mut work,

@@ -1,5 +1,5 @@
 -- The third pass names what reason 5 covers. Assumes nothing.
-use Rattle.std.proofs.Common.{◌≡◌, ℕ, ◌+◌, ◌<◌, ◌≤◌, Bool, true, false, cond, not, ◌&&◌, ◌||◌, eqb, ltb, List, [], ◌∷◌, ◌++◌, length, Some, None, Option, sym, refl, ap, ◌∙◌, subst, ⊎_elim, append_assoc, arith, length-set, get_or-set_other, get_or-set_same}
+use Rattle.std.proofs.Common.{◌≡◌, ℕ, ◌+◌, ◌<◌, ◌≤◌, Bool, true, false, cond, not, ◌&&◌, ◌||◌, eqb, List, [], ◌∷◌, ◌++◌, length, Some, None, Option, IfSome, is_some, sym, refl, ap, ◌∙◌, subst, ⊎_elim, append_assoc, arith, length-set, get_or-set_other, get_or-set_same}
 use Rattle.std.proofs.lemmas.Bool.{cases_Bool, cases_eq, cond-true, cond-false, eq-eqb, ne_eqb, lt-ltb, le-ltb}
 use Rattle.hir.specs.declared.ids.IdentifierId.{IdentifierId}
 use Rattle.hir.specs.declared.scratch.Work.{Work}
@@ -28,9 +28,19 @@ use Rattle.reasons.proofs.Late.{covers_append}
 pub record Agrees (e : ℕ) (x : Work) (s : known.Known) (i : ℕ) : Type 0 where
   pub constant : x.constant ≡ s.constant i
   pub global : x.global ≡ s.global i
-  pub tracked : ltb 0 x.tracked ≡ s.tracked i
+  pub tracked : is_some x.tracked ≡ s.tracked i
   pub exposed : table.exposed e x ≡ s.exposed i
-  pub low : x.tracked ≤ e
+  pub low : IfSome x.tracked (λ t. t ≤ e)
+
+-- after a barrier, each tracking lies before
+before_next : (e : ℕ) (o : Option ℕ) → IfSome o (λ t. t ≤ e) → table.is_before (e + 1) o ≡ is_some o
+before_next e None h = refl
+before_next e (Some t) h = lt-ltb t (e + 1) (omega arith)
+
+-- and none lies after it
+low_next : (e : ℕ) (o : Option ℕ) → IfSome o (λ t. t ≤ e) → IfSome o (λ t. t ≤ e + 1)
+low_next e None h = tt
+low_next e (Some t) h = omega arith
 
 promoted_field : {A : Type 0} (g : Work → A) → ((w : Work) → g (as_promoted w) ≡ g w) → (b : Bool) (t : Tables) (i : IdentifierId) (d : ℕ) → g (work_of (promote_if b reasons.Interposed t i).notes d) ≡ g (work_of t.notes d)
 promoted_field g keeps true t i d = same_field g keeps t.notes.work (declaration_of t.env i.0) d
@@ -46,7 +56,6 @@ module _ (m : Model) (up out : ℕ → Bool) (js : List JournalRow) where
     pub seen : Seen m up out (declares m) (js ++ covers reasons.Interposed s.found) w.tables
     pub named : (i : ℕ) → s.named i ≡ taken m (js ++ covers reasons.Interposed s.found) i
     pub rows : (i : ℕ) → i < length m.identifiers → Agrees (table.epoch w) (work_of w.tables.notes i) s i
-    pub begun : 1 ≤ table.epoch w
     -- each that was found was admitted to the journal
     pub admitted : over (admit m) js (covers reasons.Interposed s.found) ≡ js ++ covers reasons.Interposed s.found
 
@@ -94,7 +103,6 @@ module _ (m : Model) (up out : ℕ → Bool) (js : List JournalRow) where
               let R : Work → Type 0 = λ y. Agrees (table.epoch w) y s' i in
               subst R (sym (get_or-set_other w.tables.notes.work l.0 i x no_work ne)) (there i ne b (k.rows i b)))
               (cases_eq i l.0);
-          begun = k.begun;
           admitted = subst A (sym found_same) k.admitted;
         }
 
@@ -127,16 +135,14 @@ module _ (m : Model) (up out : ℕ → Bool) (js : List JournalRow) where
       (λ i ne b c. record { constant = c.constant; global = c.global ∙ sym (plus_there s.global l.0 i ne); tracked = c.tracked; exposed = c.exposed; low = c.low })
 
   -- one row under the changes of an act
-  agrees_tracked : (e : ℕ) (x : Work) (s : known.Known) (i : ℕ) → 1 ≤ e → Agrees e x s i → Agrees e (table.as_tracked e x) (known.tracking i s) i
-  agrees_tracked e x s i h a =
-      let z : ltb 0 e ≡ true = lt-ltb 0 e (omega arith) in
-      record {
-        constant = a.constant;
-        global = a.global;
-        tracked = z ∙ sym (plus_here s.tracked i);
-        exposed = ap (λ b. b && ltb e e) z ∙ le-ltb e e (omega arith) ∙ sym (minus_here s.exposed i);
-        low = omega arith;
-      }
+  agrees_tracked : (e : ℕ) (x : Work) (s : known.Known) (i : ℕ) → Agrees e x s i → Agrees e (table.as_tracked e x) (known.tracking i s) i
+  agrees_tracked e x s i a = record {
+    constant = a.constant;
+    global = a.global;
+    tracked = sym (plus_here s.tracked i);
+    exposed = le-ltb e e (omega arith) ∙ sym (minus_here s.exposed i);
+    low = omega arith;
+  }
 
   tracked_other : (e : ℕ) (y : Work) (s : known.Known) (l i : ℕ) → (i ≡ l → ⊥) → Agrees e y s i → Agrees e y (known.tracking l s) i
   tracked_other e y s l i ne c = record {
@@ -181,7 +187,7 @@ module _ (m : Model) (up out : ℕ → Bool) (js : List JournalRow) where
       subst P (sym (cond-true _ _ _ e))
       (subst Q (sym (cond-true _ _ _ (nameless_is s w k l ∙ e)))
       (knows_noting s (known.tracking l.0 s) w l (table.as_tracked (table.epoch w) (table.work w l)) k h refl (λ i. refl) refl refl refl
-      (agrees_tracked (table.epoch w) (table.work w l) s l.0 k.begun (k.rows l.0 h))
+      (agrees_tracked (table.epoch w) (table.work w l) s l.0 (k.rows l.0 h))
       (λ i ne b c. tracked_other (table.epoch w) (work_of w.tables.notes i) s l.0 i ne c))))
       (λ e.
       let P : known.Known → Type 0 = λ a. Knows a (table.does w (table.tracks l)) in
@@ -201,7 +207,7 @@ module _ (m : Model) (up out : ℕ → Bool) (js : List JournalRow) where
       (subst Q (sym (cond-true _ _ _ (nameless_is s w k l ∙ e) ∙ ap (λ c. table.noting w l (table.as_tracked (table.epoch w) (table.as_constant c (table.work w l)))) same))
       (knows_noting s (known.tracking l.0 inner) w l (table.as_tracked (table.epoch w) (table.as_constant b (table.work w l))) k h
       (if_found b (known.fixing l.0) s refl) (λ i. if_named b (known.fixing l.0) s i refl) refl refl refl
-      (agrees_tracked (table.epoch w) (table.as_constant b (table.work w l)) inner l.0 k.begun (agrees_constant b (table.epoch w) (table.work w l) s l.0 (k.rows l.0 h)))
+      (agrees_tracked (table.epoch w) (table.as_constant b (table.work w l)) inner l.0 (agrees_constant b (table.epoch w) (table.work w l) s l.0 (k.rows l.0 h)))
       (λ i ne q c. tracked_other (table.epoch w) (work_of w.tables.notes i) inner l.0 i ne (constant_other b (table.epoch w) (work_of w.tables.notes i) s l.0 i ne c)))))
       (λ e.
       let P : known.Known → Type 0 = λ a. Knows a (table.does w (table.loads l x)) in
@@ -226,7 +232,7 @@ module _ (m : Model) (up out : ℕ → Bool) (js : List JournalRow) where
       (subst Q (sym (as_b ∙ ap (table.noting w l) (cond-true _ _ _ (nameless_is s w k l ∙ e))))
       (knows_noting s (known.tracking l.0 inner) w l (table.as_tracked (table.epoch w) y) k h
       (if_found b f s refl) (λ i. if_named b f s i refl) refl refl refl
-      (agrees_tracked (table.epoch w) y inner l.0 k.begun here)
+      (agrees_tracked (table.epoch w) y inner l.0 here)
       (λ i ne q c. tracked_other (table.epoch w) (work_of w.tables.notes i) inner l.0 i ne (global_other b (table.epoch w) (work_of w.tables.notes i) s l.0 i ne c)))))
       (λ e.
       let P : known.Known → Type 0 = λ a. Knows a (table.does w (table.takes l x)) in
@@ -244,23 +250,12 @@ module _ (m : Model) (up out : ℕ → Bool) (js : List JournalRow) where
   knows_raised s w k = record {
     seen = k.seen;
     named = k.named;
-    begun = omega (arith, k.begun);
     admitted = k.admitted;
     rows = λ i b.
         let a = k.rows i b in
-        let x = work_of w.tables.notes i in
-        record {
-          constant = a.constant;
-          global = a.global;
-          tracked = a.tracked;
-          exposed = ap (λ c. ltb 0 x.tracked && c) (lt-ltb x.tracked (table.epoch w + 1) (omega (arith, a.low))) ∙ and_true (ltb 0 x.tracked) ∙ a.tracked;
-          low = omega (arith, a.low);
-        };
+        let o = (work_of w.tables.notes i).tracked in
+        record { constant = a.constant; global = a.global; tracked = a.tracked; exposed = before_next (table.epoch w) o a.low ∙ a.tracked; low = low_next (table.epoch w) o a.low };
   }
-    where
-      and_true : (b : Bool) → (b && true) ≡ b
-      and_true true = refl
-      and_true false = refl
 
   knows_barrier : (s : known.Known) (w : table.State) (l : Option IdentifierId) → Knows s w → table.KnownIf m l → Knows (known.act s (table.barrier l)) (table.does w (table.barrier l))
   knows_barrier s w None k h = knows_raised s w k
@@ -308,16 +303,15 @@ module _ (m : Model) (up out : ℕ → Bool) (js : List JournalRow) where
         (record {
           seen = seen;
           named = named;
-          begun = k.begun;
           admitted = in_all;
           rows = λ i b.
               let a = same i (k.rows i b) in
               record {
                 constant = row_same (λ y. y.constant) (λ y. refl) i ∙ a.constant;
                 global = row_same (λ y. y.global) (λ y. refl) i ∙ a.global;
-                tracked = row_same (λ y. ltb 0 y.tracked) (λ y. refl) i ∙ a.tracked;
+                tracked = row_same (λ y. is_some y.tracked) (λ y. refl) i ∙ a.tracked;
                 exposed = row_same (λ y. table.exposed (table.epoch w) y) (λ y. refl) i ∙ a.exposed;
-                low = omega (arith, a.low, row_same (λ y. y.tracked) (λ y. refl) i);
+                low = subst (λ o. IfSome o (λ t. t ≤ table.epoch w)) (sym (row_same (λ y. y.tracked) (λ y. refl) i)) a.low;
               };
         })
 

@@ -1,5 +1,5 @@
 -- The first pass notes which declarations are tags and which escaped. Assumes nothing.
-use Rattle.std.proofs.Common.{◌≡◌, ℕ, zero, suc, ◌+◌, ◌-◌, ◌<◌, ◌≤◌, Bool, true, false, not, ◌&&◌, ◌||◌, eqb, ◌≢◌, List, [], ◌∷◌, map, length, get_or, set, sym, refl, ap, ◌∙◌, subst, ⊎_elim, add-one, arith, length-set, get_or-set_other, get_or-set_same}
+use Rattle.std.proofs.Common.{◌≡◌, ℕ, zero, suc, ◌+◌, ◌<◌, ◌≤◌, Bool, true, false, not, ◌||◌, eqb, ◌≢◌, List, [], ◌∷◌, Some, None, Option, map, length, set, sym, refl, ap, ◌∙◌, subst, ⊎_elim, arith, length-set, get_or-set_other, get_or-set_same}
 use Rattle.std.proofs.lemmas.Bool.{cases_Bool, cases_eq, cond-true, cond-false, eq-eqb, ne_eqb}
 use Rattle.hir.specs.declared.ids.IdentifierId.{IdentifierId}
 use Rattle.hir.specs.declared.ids.ScopeId.{ScopeId}
@@ -14,7 +14,7 @@ use Rattle.hir.specs.Spans.{identifiers_in}
 use Rattle.promote.specs.Identifier.{with_work}
 use Rattle.walk.specs.Events.{Whole, whole}
 use Rattle.collect.specs.declared.promotable.CollectPromotable.{CollectPromotable}
-use Rattle.collect.specs.Links.{along, is_along, trail_of}
+use Rattle.collect.specs.Links.{trail_of, reach, along}
 use Rattle.collect.specs.Promotable as table
 use Rattle.collect.proofs.Keeping as keeping
 use Rattle.reasons.specs.Escapes as known
@@ -22,23 +22,23 @@ use Rattle.reasons.proofs.Bools.{or_true, or_false}
 use Rattle.reasons.proofs.Early.{Static}
 
 -- the scopes along a link, through trail rows below a bound
-pub data Chain (trail : List Trail) (used : ℕ) : ℕ → List ScopeId → Type 0 where
-  ends : Chain trail used 0 []
-  links : {ss : List ScopeId} (j : ℕ) → j < used → (get_or trail j no_trail).link ≤ j → Chain trail used (get_or trail j no_trail).link ss → Chain trail used (suc j) ((get_or trail j no_trail).scope ∷ ss)
+pub data Chain (trail : List Trail) (used : ℕ) : Option ℕ → List ScopeId → Type 0 where
+  ends : Chain trail used None []
+  links : {ss : List ScopeId} (j : ℕ) → j < used → reach (trail_of trail j).link ≤ j → Chain trail used (trail_of trail j).link ss → Chain trail used (Some j) ((trail_of trail j).scope ∷ ss)
 
-chain_low : {trail : List Trail} {used l : ℕ} {ss : List ScopeId} → Chain trail used l ss → l ≤ used
+chain_low : {trail : List Trail} {used : ℕ} {l : Option ℕ} {ss : List ScopeId} → Chain trail used l ss → reach l ≤ used
 chain_low ends = omega arith
 chain_low (links j h d c) = omega arith
 
 numbers : List ScopeId → List ℕ
 numbers ss = map (λ s. s.0) ss
 
-chain_along : {trail : List Trail} {used l : ℕ} {ss : List ScopeId} → Chain trail used l ss → (fuel : ℕ) → l ≤ fuel → along fuel trail l ≡ numbers ss
+chain_along : {trail : List Trail} {used : ℕ} {l : Option ℕ} {ss : List ScopeId} → Chain trail used l ss → (fuel : ℕ) → reach l ≤ fuel → along fuel trail l ≡ numbers ss
 unfolding numbers
 chain_along ends zero h = refl
 chain_along ends (suc fuel) h = refl
 chain_along (links j a d c) zero h = absurd (omega arith)
-chain_along {trail} (links j a d c) (suc fuel) h = ap (λ xs. (get_or trail j no_trail).scope.0 ∷ xs) (chain_along c fuel (omega arith))
+chain_along {trail} (links j a d c) (suc fuel) h = ap (λ xs. (trail_of trail j).scope.0 ∷ xs) (chain_along c fuel (omega arith))
 
 among_is : (n : ℕ) (ss : List ScopeId) → list_any (λ x. eqb x n) (numbers ss) ≡ list_any (λ (x : ScopeId). eqb x.0 n) ss
 unfolding numbers
@@ -46,20 +46,20 @@ among_is n [] = refl
 among_is n (s ∷ ss) = ap (λ b. eqb s.0 n || b) (among_is n ss)
 
 -- rows at or beyond the bound may be written
-chain_set : {trail : List Trail} {used l : ℕ} {ss : List ScopeId} (r : Trail) → Chain trail used l ss → Chain (set trail used r) (used + 1) l ss
+chain_set : {trail : List Trail} {used : ℕ} {l : Option ℕ} {ss : List ScopeId} (r : Trail) → Chain trail used l ss → Chain (set trail used r) (used + 1) l ss
 chain_set r ends = ends
 chain_set {trail} {used} r (links {ss = ss} j a d c) =
     let ne : j ≢ used = omega arith in
-    let e : get_or (set trail used r) j no_trail ≡ get_or trail j no_trail = get_or-set_other trail used j r no_trail ne in
-    let P : Trail → Type 0 = λ x. x.link ≤ j in
+    let e : trail_of (set trail used r) j ≡ trail_of trail j = get_or-set_other trail used j r no_trail ne in
+    let P : Trail → Type 0 = λ x. reach x.link ≤ j in
     let Q : Trail → Type 0 = λ x. Chain (set trail used r) (used + 1) x.link ss in
-    let R : Trail → Type 0 = λ x. Chain (set trail used r) (used + 1) (suc j) (x.scope ∷ ss) in
+    let R : Trail → Type 0 = λ x. Chain (set trail used r) (used + 1) (Some j) (x.scope ∷ ss) in
     subst R e (links j (omega arith) (subst P (sym e) d) (subst Q (sym e) (chain_set r c)))
 
 -- one declaration, as known and as its work row has it
 pub data Agrees (trail : List Trail) (used : ℕ) : known.Seen → Work → Type 0 where
-  unseen : (w : Work) → w.recorded ≡ 0 → w.escaped ≡ false → Agrees trail used known.never w
-  seen_at : (w : Work) (l : ℕ) (at : List ScopeId) (b : Bool) → w.recorded ≡ l + 1 → Chain trail used l at → w.escaped ≡ b → Agrees trail used (known.since at b) w
+  unseen : (w : Work) → w.recorded ≡ None → w.escaped ≡ false → Agrees trail used known.never w
+  seen_at : (w : Work) (l : Option ℕ) (at : List ScopeId) (b : Bool) → w.recorded ≡ Some l → Chain trail used l at → w.escaped ≡ b → Agrees trail used (known.since at b) w
 
 agrees_set : {trail : List Trail} {used : ℕ} {s : known.Seen} {w : Work} (r : Trail) → Agrees trail used s w → Agrees (set trail used r) (used + 1) s w
 agrees_set r (unseen w a b) = unseen w a b
@@ -78,7 +78,7 @@ pub record Plain (w : Work) : Type 0 where
   pub promoted : w.promoted ≡ false
   pub constant : w.constant ≡ false
   pub global : w.global ≡ false
-  pub tracked : w.tracked ≡ 0
+  pub tracked : w.tracked ≡ None
 
 module _ (m : Model) (static : Static m) where
   -- the notes agree with what is known of escapes and tags
@@ -182,24 +182,16 @@ module _ (m : Model) (static : Static m) where
   leaves active known.never = false
   leaves active (known.since at b) = known.outside active at
 
-  outside_is : {trail : List Trail} {used l r : ℕ} {active at : List ScopeId} → Chain trail used l active → Chain trail used r at → (not (eqb l 0) && not (is_along trail r (trail_of trail l).scope.0)) ≡ known.outside active at
+  outside_is : {trail : List Trail} {used : ℕ} {l r : Option ℕ} {active at : List ScopeId} → Chain trail used l active → Chain trail used r at → table.is_outside trail (Some r) l ≡ known.outside active at
   outside_is ends c = refl
   outside_is {trail} {r = r} {at = at} (links j a d b) c =
-      let back : suc j - 1 ≡ j = omega arith in
-      ap (λ x. not x && not (is_along trail r (trail_of trail (suc j)).scope.0)) (ne_eqb (suc j) 0 (omega arith))
-      ∙ ap (λ n. not (is_along trail r (get_or trail n no_trail).scope.0)) back
-      ∙ ap (λ xs. not (list_any (λ x. eqb x (get_or trail j no_trail).scope.0) xs)) (chain_along c r (omega arith))
-      ∙ ap not (among_is (get_or trail j no_trail).scope.0 at)
+      ap (λ xs. not (list_any (λ x. eqb x (trail_of trail j).scope.0) xs)) (chain_along c (reach r) (omega arith))
+      ∙ ap not (among_is (trail_of trail j).scope.0 at)
 
-  escapes_is : (n : Notes) (used innermost : ℕ) (active : List ScopeId) (seen : known.Seen) (x : Work) → Chain n.trail used innermost active → Agrees n.trail used seen x → table.escapes_at innermost n x ≡ leaves active seen
+  escapes_is : (n : Notes) (used : ℕ) (innermost : Option ℕ) (active : List ScopeId) (seen : known.Seen) (x : Work) → Chain n.trail used innermost active → Agrees n.trail used seen x → table.escapes_at innermost n x ≡ leaves active seen
   unfolding leaves
-  escapes_is n used innermost active known.never x c (unseen w a b) = ap (λ r. not (eqb r 0) && (not (eqb innermost 0) && not (is_along n.trail (r - 1) (trail_of n.trail innermost).scope.0))) a
-  escapes_is n used innermost active (known.since at b) x c (seen_at w l _ _ e d f) =
-      let back : l + 1 - 1 ≡ l = omega arith in
-      ap (λ r. not (eqb r 0) && (not (eqb innermost 0) && not (is_along n.trail (r - 1) (trail_of n.trail innermost).scope.0))) e
-      ∙ ap (λ y. not y && (not (eqb innermost 0) && not (is_along n.trail (l + 1 - 1) (trail_of n.trail innermost).scope.0))) (ne_eqb (l + 1) 0 (omega arith))
-      ∙ ap (λ r. not (eqb innermost 0) && not (is_along n.trail r (trail_of n.trail innermost).scope.0)) back
-      ∙ outside_is c d
+  escapes_is n used innermost active known.never x c (unseen w a b) = ap (λ o. table.is_outside n.trail o innermost) a
+  escapes_is n used innermost active (known.since at b) x c (seen_at w l _ _ e d f) = ap (λ o. table.is_outside n.trail o innermost) e ∙ outside_is c d
 
   used_none : (active : List ScopeId) (seen : known.Seen) → leaves active seen ≡ false → known.used active seen ≡ seen
   unfolding leaves
@@ -262,31 +254,25 @@ module _ (m : Model) (static : Static m) where
       let n = w.visitor.used in
       let trail = w.tables.notes.trail in
       let r = table.trail_row x w.visitor.innermost in
-      let e : get_or (set trail n r) n no_trail ≡ r = get_or-set_same trail n r no_trail room in
-      let P : Trail → Type 0 = λ y. y.link ≤ n in
+      let e : trail_of (set trail n r) n ≡ r = get_or-set_same trail n r no_trail room in
+      let P : Trail → Type 0 = λ y. reach y.link ≤ n in
       let Q : Trail → Type 0 = λ y. Chain (set trail n r) (n + 1) y.link s.active in
-      let R : Trail → Type 0 = λ y. Chain (set trail n r) (n + 1) (suc n) (y.scope ∷ s.active) in
-      let S : ℕ → Type 0 = λ l. Chain (set trail n r) (n + 1) l (x ∷ s.active) in
+      let R : Trail → Type 0 = λ y. Chain (set trail n r) (n + 1) (Some n) (y.scope ∷ s.active) in
       record {
         env = k.env;
-        active = subst S (sym (add-one n)) (subst R e (links n (omega arith) (subst P (sym e) (chain_low k.active)) (subst Q (sym e) (chain_set r k.active))));
+        active = subst R e (links n (omega arith) (subst P (sym e) (chain_low k.active)) (subst Q (sym e) (chain_set r k.active)));
         rows = λ d b. agrees_set r (k.rows d b);
         tags = k.tags;
         plain = k.plain;
         room = k.room;
       }
 
-  shut_chain : {trail : List Trail} {used l : ℕ} {ss : List ScopeId} (n : Notes) → n.trail ≡ trail → Chain trail used l ss → Chain trail used (table.around n l) (known.rest ss)
-  shut_chain n e ends = ends
-  shut_chain {trail} {used} n e (links {ss = ss} j a d c) =
-      let back : suc j - 1 ≡ j = omega arith in
-      let same : table.around n (suc j) ≡ (get_or trail j no_trail).link =
-      cond-false _ _ _ (ne_eqb (suc j) 0 (omega arith)) ∙ ap (λ k. (get_or n.trail k no_trail).link) back ∙ ap (λ t. (get_or t j no_trail).link) e in
-      let P : ℕ → Type 0 = λ l. Chain trail used l ss in
-      subst P (sym same) c
+  shut_chain : {used : ℕ} {l : Option ℕ} {ss : List ScopeId} (n : Notes) → Chain n.trail used l ss → Chain n.trail used (table.around n l) (known.rest ss)
+  shut_chain n ends = ends
+  shut_chain n (links j a d c) = c
 
   marks_shuts : (s : known.Known) (up : ℕ → Bool) (w : Whole CollectPromotable) → Marks s up w → Marks (known.act m s table.shuts) up (table.does w table.shuts)
-  marks_shuts s up w k = record { env = k.env; active = shut_chain w.tables.notes refl k.active; rows = k.rows; tags = k.tags; plain = k.plain; room = k.room }
+  marks_shuts s up w k = record { env = k.env; active = shut_chain w.tables.notes k.active; rows = k.rows; tags = k.tags; plain = k.plain; room = k.room }
 
   marks_prunes : (s : known.Known) (up : ℕ → Bool) (w : Whole CollectPromotable) (x : ScopeId) → Marks s up w → x.0 < length m.scopes → Marks (known.act m s (table.prunes x)) up (table.does w (table.prunes x))
   marks_prunes s up w x k h =

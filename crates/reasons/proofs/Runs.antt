@@ -1,5 +1,5 @@
 -- The four passes leave what the coverings of a run say. Assumes nothing.
-use Rattle.std.proofs.Common.{◌≡◌, ℕ, Bool, false, ◌&&◌, ltb, List, [], ◌∷◌, ◌++◌, length, get_or, replicate, sym, refl, ap, ◌∙◌, subst, ⊎_elim, append_assoc, append-nil, arith}
+use Rattle.std.proofs.Common.{◌≡◌, ℕ, ◌≤◌, Bool, false, Option, IfSome, is_some, None, List, [], ◌∷◌, ◌++◌, length, get_or, replicate, sym, refl, ap, ◌∙◌, subst, ⊎_elim, append_assoc, append-nil}
 use lib.ListN.{length-replicate}
 use Rattle.std.proofs.lemmas.List.{get_or-replicate, get_or_past}
 use Rattle.std.proofs.lemmas.Bool.{cases_lt, cond_both}
@@ -56,7 +56,7 @@ blank_mark n f =
     (cases_lt f (length n.marks))
 
 -- the first pass leaves the marks of functions
-marks_recorded : (l : ℕ) (t : Tables) (is : List IdentifierId) → (over (collects.recorded_at l) t is).notes.marks ≡ t.notes.marks
+marks_recorded : (l : Option ℕ) (t : Tables) (is : List IdentifierId) → (over (collects.recorded_at l) t is).notes.marks ≡ t.notes.marks
 marks_recorded l t [] = refl
 marks_recorded l t (i ∷ is) = marks_recorded l (collects.recorded_at l t i) is
 
@@ -147,19 +147,18 @@ module _ (t : Tables) (ps : Span) (rs : List Row) (sound : Sound t) (parameters 
         seen = subst P (sym (append-nil firstly)) seen_two;
         named = subst Q (sym (append-nil firstly)) (λ i. sym (taken_over t.env [] (early t.env ps rs) i));
         rows = λ i l. blank_row_two i (marked.plain i l);
-        begun = omega arith;
         admitted = sym (append-nil firstly);
       }
     where
       blank_row_two : (i : ℕ) → marking.Plain (work_of one.notes i) → Agrees 1 (work_of two.notes i) (known.nothing (named_then t.env ps rs)) i
       blank_row_two i p =
-          let z : (work_of two.notes i).tracked ≡ 0 = field_two (λ w. w.tracked) (λ w. refl) i ∙ p.tracked in
+          let z : (work_of two.notes i).tracked ≡ None = field_two (λ w. w.tracked) (λ w. refl) i ∙ p.tracked in
           record {
             constant = field_two (λ w. w.constant) (λ w. refl) i ∙ p.constant;
             global = field_two (λ w. w.global) (λ w. refl) i ∙ p.global;
-            tracked = ap (ltb 0) z;
-            exposed = ap (λ n. ltb 0 n && ltb n 1) z;
-            low = omega (arith, z);
+            tracked = ap is_some z;
+            exposed = ap (interposes.is_before 1) z;
+            low = subst (λ o. IfSome o (λ e. e ≤ 1)) (sym z) tt;
           }
 
   abbrev three : Tables

@@ -19,7 +19,6 @@ record_pruned-requires c =
     record {
       known = listed_known (recorded_at l) (grows_recorded l) _ _ _ _ c.loop-n.invariant (omega arith);
       sound = c.loop-n.invariant.sound;
-      low = omega (arith, c.requires.linked.innermost, c.requires.low);
     }
 
 pub loop-n-preserved : goal.loop-n-preserved
