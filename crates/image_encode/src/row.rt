@@ -15,7 +15,7 @@ use reactive::code::Code;
 use reactive::row::{Number, RowHead};
 use reactive::source::TreeSource;
 
-// The word that stands for an optional identifier.
+// The word that stands for an optional identifier. No From: neither type is of this crate.
 fn identifier_word(identifier: Option<IdentifierId>) -> u32
     ensures { result ≡ identifier_word identifier }
 {

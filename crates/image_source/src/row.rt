@@ -11,7 +11,7 @@ use image::fields::{Numbers, RowFields};
 use reactive::code::Code;
 use reactive::row::{Number, RowHead};
 
-// A number of all ones stands for an absent one.
+// A number of all ones stands for an absent one. No From: neither type is of this crate.
 fn identifier_of(number: u32) -> Option<IdentifierId>
     ensures { result ≡ identifier_of number }
 {
@@ -22,6 +22,7 @@ fn identifier_of(number: u32) -> Option<IdentifierId>
 }
 
 // The number of a Scope or Pruned row is a scope, that of any other a function.
+// `RowHead::is` would tell the code, but the row is made of this number.
 fn number_of(code: u8, number: u32) -> Option<Number>
     ensures { result ≡ number_of code number }
 {
