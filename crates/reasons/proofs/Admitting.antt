@@ -1,5 +1,6 @@
 -- First coverings, one after another. Assumes nothing.
 use Rattle.std.proofs.Common.{◌≡◌, ℕ, Bool, true, cond, ◌||◌, eqb, List, [], ◌∷◌, ◌++◌, sym, refl, ap, ◌∙◌, ⊎_elim, append_assoc, append-nil}
+use Rattle.std.proofs.lemmas.List.Folds.{list_any-append}
 use Rattle.std.proofs.lemmas.Bool.{cases_Bool, cond-true, cond-false, eqb-true}
 use Rattle.hir.specs.declared.tables.JournalRow.{JournalRow}
 use Rattle.hir.specs.Environments.{Model}
@@ -7,10 +8,6 @@ use Rattle.hir.specs.Lists.{over}
 use Rattle.std.specs.List.{list_any}
 use Rattle.reasons.specs.Journals.{names, is_named, firsts, declares}
 use Rattle.reasons.proofs.Bools.{or_false, or_assoc, or_swap}
-
-pub some_append : {A : Type 0} (p : A → Bool) (xs ys : List A) → list_any p (xs ++ ys) ≡ (list_any p xs || list_any p ys)
-some_append p [] ys = refl
-some_append p (x ∷ xs) ys = ap (λ b. p x || b) (some_append p xs ys) ∙ sym (or_assoc (p x) (list_any p xs) (list_any p ys))
 
 -- who has a name once these rows are journalled
 abbrev pub taken : Model → List JournalRow → ℕ → Bool
@@ -26,7 +23,7 @@ firsts_same p q (r ∷ rows) e =
     (λ k. cond (e r.identifier.0 k) (firsts_same p q rows e k) (r ∷ firsts_same (λ i. eqb i r.identifier.0 || p i) (λ i. eqb i r.identifier.0 || q i) rows (λ i. ap (λ b. eqb i r.identifier.0 || b) (e i)) k))
 
 names_push : (i : ℕ) (js : List JournalRow) (r : JournalRow) → names i (js ++ r ∷ []) ≡ (names i js || eqb i r.identifier.0)
-names_push i js r = some_append (λ x. eqb i x.identifier.0) js (r ∷ []) ∙ ap (λ b. names i js || b) (or_false (eqb i r.identifier.0))
+names_push i js r = list_any-append (λ x. eqb i x.identifier.0) js (r ∷ []) ∙ ap (λ b. names i js || b) (or_false (eqb i r.identifier.0))
 
 pub taken_push : (m : Model) (js : List JournalRow) (r : JournalRow) (i : ℕ) → taken m (js ++ r ∷ []) i ≡ (eqb i r.identifier.0 || taken m js i)
 taken_push m js r i = ap (λ b. b || is_named m i) (names_push i js r) ∙ or_swap (names i js) (eqb i r.identifier.0) (is_named m i)

@@ -1,5 +1,6 @@
 -- The third pass names what reason 5 covers. Assumes nothing.
 use Rattle.std.proofs.Common.{◌≡◌, ℕ, ◌+◌, ◌<◌, ◌≤◌, Bool, true, false, cond, not, ◌&&◌, ◌||◌, eqb, List, [], ◌∷◌, ◌++◌, length, Some, None, Option, IfSome, is_some, sym, refl, ap, ◌∙◌, subst, ⊎_elim, append_assoc, arith, length-set, get_or-set_other, get_or-set_same}
+use Rattle.std.specs.List.{filter}
 use Rattle.std.proofs.lemmas.Bool.{cases_Bool, cases_eq, cond-true, cond-false, eq-eqb, ne_eqb, lt-ltb, le-ltb}
 use Rattle.hir.specs.declared.ids.IdentifierId.{IdentifierId}
 use Rattle.hir.specs.declared.scratch.Work.{Work}
@@ -16,7 +17,7 @@ use Rattle.promote.specs.Identifier.{as_promoted, promote_if, is_unnamed, row}
 use Rattle.promote.proofs.Growing.{sound_grows}
 use Rattle.interposed.specs.Acts as table
 use Rattle.reasons.specs.Journals.{declares}
-use Rattle.reasons.specs.Coverings.{covers, filter}
+use Rattle.reasons.specs.Coverings.{covers}
 use Rattle.reasons.specs.Interposed as known
 use Rattle.reasons.proofs.Bools.{or_true, or_false, and_false}
 use Rattle.reasons.proofs.Admitting.{taken, admit, taken_push}

@@ -1,5 +1,6 @@
 -- The second pass names what reasons 1 to 4 cover. Assumes nothing.
 use Rattle.std.proofs.Common.{◌≡◌, ℕ, zero, suc, ◌<◌, Bool, true, false, ◌&&◌, ◌||◌, List, [], ◌∷◌, ◌++◌, length, get_or, set, sym, refl, ap, ◌∙◌, subst, ⊎_elim, arith, get_or-set_other, get_or-set_same}
+use Rattle.std.specs.List.{filter}
 use Rattle.std.proofs.lemmas.Bool.{cases_Bool, cases_eq, cond-true, cond-false, cond_both, eq-eqb, ne_eqb}
 use Rattle.hir.specs.declared.ids.FunctionId.{FunctionId}
 use Rattle.hir.specs.declared.ids.IdentifierId.{IdentifierId}
@@ -20,7 +21,7 @@ use Rattle.promote.proofs.Growing.{sound_grows}
 use Rattle.promote.proofs.Visiting as visiting
 use Rattle.walk.proofs.Rows.{over_append}
 use Rattle.reasons.specs.Journals.{declares}
-use Rattle.reasons.specs.Coverings.{covers, filter, Covered, entering, reaching, covering}
+use Rattle.reasons.specs.Coverings.{covers, Covered, entering, reaching, covering}
 use Rattle.reasons.proofs.Admitting.{admit}
 use Rattle.reasons.proofs.Views.{same_field}
 use Rattle.reasons.proofs.Steps.{Seen, seen_list, filter_all, unnamed_is, goes_declares}

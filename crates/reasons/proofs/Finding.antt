@@ -1,5 +1,6 @@
 -- The definition of interposed uses says what its sentence says. Assumes nothing.
 use Rattle.std.proofs.Common.{◌≡◌, ℕ, zero, suc, ◌<◌, ◌≤◌, Bool, true, false, cond, not, ◌&&◌, ◌||◌, eqb, ◌⊎◌, List, [], ◌∷◌, length, Some, None, sym, refl, ap, ◌∙◌, subst, inl, inr, ⊎_elim, arith, take_all}
+use Rattle.std.proofs.lemmas.List.Folds.{list_any-append}
 use Rattle.std.proofs.lemmas.List.{get_or_past}
 use Rattle.std.proofs.lemmas.Bool.{cases_Bool, cases_eq, cases_lt, cases_order, cond-true, cond-false, cond_both, eqb-true, or_cases, and_parts}
 use Rattle.hir.specs.declared.ids.IdentifierId.{IdentifierId}
@@ -10,7 +11,6 @@ use Rattle.interposed.specs.Acts as third
 use Rattle.reasons.specs.Interposed.{Known, finds, fixing, globally, tracking, raising, if, act, nothing, interposed}
 use Rattle.reasons.specs.Sentences.{tracks_it, raises_it, uses_it, known_at, act_at, TrackedAt, BarrierAt, FoundAt, Found}
 use Rattle.reasons.proofs.Bools.{or_false, and_true, and_false, true_false, was_not}
-use Rattle.reasons.proofs.Admitting.{some_append}
 use Rattle.reasons.proofs.Escaping.{take_next}
 
 -- what an act does to what is tracked and exposed of x
@@ -84,7 +84,7 @@ found_step x s (third.uses y) =
     ⊎_elim
     (λ e.
     ap (λ (t : Known). among x t.found) (cond-true _ _ _ e)
-    ∙ some_append (λ (i : IdentifierId). eqb x i.0) s.found (y ∷ [])
+    ∙ list_any-append (λ (i : IdentifierId). eqb x i.0) s.found (y ∷ [])
     ∙ ap (λ b. among x s.found || b)
     (or_false (eqb x y.0)
     ∙ ⊎_elim

@@ -9,7 +9,7 @@ use Rattle.hir.specs.declared.tables.Reason.{Reason}
 use Rattle.hir.specs.declared.tables.Reason.TheVariants as reasons
 use Rattle.hir.specs.Environments.{Model, declaration_of, scope_of, function_of}
 use Rattle.hir.specs.Lists.{over, Each}
-use Rattle.std.specs.List.{list_any}
+use Rattle.std.specs.List.{filter, list_any}
 use Rattle.hir.specs.Spans.{identifiers_in, functions_in}
 use Rattle.reactive.specs.Rows.{Row}
 use Rattle.walk.proofs.Fitting.{each_append}
@@ -17,7 +17,7 @@ use Rattle.promote.specs.Temporaries as temporaries
 use Rattle.instances.specs.Instances as instances
 use Rattle.reasons.specs.Journals.{names, is_named, firsts, declares}
 use Rattle.reasons.specs.Escapes.{escaped}
-use Rattle.reasons.specs.Coverings.{covers, filter, Covered, entering, reaching, covering, early, between, before, visits, late, coverings, journal}
+use Rattle.reasons.specs.Coverings.{covers, Covered, entering, reaching, covering, early, between, before, visits, late, coverings, journal}
 use Rattle.reasons.specs.Laws.{first_reason, Once, visited, Sixth, JournalLaws}
 use Rattle.reasons.proofs.Bools.{or_true, and_false}
 

@@ -1,5 +1,7 @@
 -- The last pass names what reason 6 covers. Assumes nothing.
 use Rattle.std.proofs.Common.{◌≡◌, ℕ, Bool, List, [], ◌∷◌, ◌++◌, get_or, sym, refl, ap, ◌∙◌, subst, ⊎_elim}
+use Rattle.std.specs.List.{filter}
+use Rattle.std.proofs.lemmas.List.Elements.{filter-append}
 use Rattle.std.proofs.lemmas.Bool.{cases_Bool, cond-true, cond-false}
 use Rattle.hir.specs.declared.ids.IdentifierId.{IdentifierId}
 use Rattle.hir.specs.declared.tables.JournalRow.{JournalRow}
@@ -13,18 +15,10 @@ use Rattle.hir.specs.Spans.{identifiers_in}
 use Rattle.walk.proofs.Fitting.{each_append}
 use Rattle.walk.proofs.Rows.{over_append}
 use Rattle.instances.specs.Instances as instances
-use Rattle.reasons.specs.Coverings.{covers, filter, visits_of, visits}
+use Rattle.reasons.specs.Coverings.{covers, visits_of, visits}
 use Rattle.reasons.proofs.Admitting.{admit}
 use Rattle.reasons.proofs.Steps.{Seen, seen_list, goes_same}
 use Rattle.reasons.proofs.Early.{Static}
-
-pub filter_append : {A : Type 0} (p : A → Bool) (xs ys : List A) → filter p (xs ++ ys) ≡ filter p xs ++ filter p ys
-filter_append p [] ys = refl
-filter_append p (x ∷ xs) ys =
-    ⊎_elim
-    (λ e. cond-true _ _ _ e ∙ ap (λ zs. x ∷ zs) (filter_append p xs ys) ∙ sym (ap (λ zs. zs ++ filter p ys) (cond-true (p x) (x ∷ filter p xs) (filter p xs) e)))
-    (λ e. cond-false _ _ _ e ∙ filter_append p xs ys ∙ sym (ap (λ zs. zs ++ filter p ys) (cond-false (p x) (x ∷ filter p xs) (filter p xs) e)))
-    (cases_Bool (p x))
 
 pub covers_append : (why : Reason) (xs ys : List IdentifierId) → covers why (xs ++ ys) ≡ covers why xs ++ covers why ys
 covers_append why [] ys = refl
@@ -76,5 +70,5 @@ module _ (m : Model) (up out done : ℕ → Bool) (static : Static m) where
       let rest = seen_acts acts h.1 (over (admit m) js (covers reasons.SameDeclaration mine)) (instances.does t a) here_done in
       subst (λ rows. SeenAt rows (over instances.does (instances.does t a) acts))
       (sym (over_append (admit m) js (covers reasons.SameDeclaration mine) (covers reasons.SameDeclaration others))
-      ∙ ap (over (admit m) js) (sym (covers_append reasons.SameDeclaration mine others) ∙ ap (covers reasons.SameDeclaration) (sym (filter_append (λ i. done (declaration_of m i.0)) (visits_of m a) (visits m acts)))))
+      ∙ ap (over (admit m) js) (sym (covers_append reasons.SameDeclaration mine others) ∙ ap (covers reasons.SameDeclaration) (sym (filter-append (λ i. done (declaration_of m i.0)) (visits_of m a) (visits m acts)))))
       rest

@@ -1,5 +1,7 @@
 -- The four passes leave what the coverings of a run say. Assumes nothing.
 use Rattle.std.proofs.Common.{◌≡◌, ℕ, ◌≤◌, Bool, false, Option, IfSome, is_some, None, List, [], ◌∷◌, ◌++◌, length, get_or, replicate, sym, refl, ap, ◌∙◌, subst, ⊎_elim, append_assoc, append-nil}
+use Rattle.std.specs.List.{filter}
+use Rattle.std.proofs.lemmas.List.Elements.{filter-append}
 use lib.ListN.{length-replicate}
 use Rattle.std.proofs.lemmas.List.{get_or-replicate, get_or_past}
 use Rattle.std.proofs.lemmas.Bool.{cases_lt, cond_both}
@@ -29,12 +31,12 @@ use Rattle.instances.specs.Instances as instances
 use Rattle.reasons.specs.Journals.{declares}
 use Rattle.reasons.specs.Escapes as escapes
 use Rattle.reasons.specs.Interposed as known
-use Rattle.reasons.specs.Coverings.{covers, filter, early, between, before, late, visits, journal, upper, ran, named_then}
+use Rattle.reasons.specs.Coverings.{covers, early, between, before, late, visits, journal, upper, ran, named_then}
 use Rattle.reasons.specs.Passes.{reset, passed}
 use Rattle.reasons.proofs.Admitting.{admit, taken, taken_over, firsts_all}
 use Rattle.reasons.proofs.Steps.{Seen}
 use Rattle.reasons.proofs.Early.{Static, covers_parameters, covers_all, kept_field}
-use Rattle.reasons.proofs.Late.{seen_visited, seen_acts, filter_append, covers_append}
+use Rattle.reasons.proofs.Late.{seen_visited, seen_acts, covers_append}
 use Rattle.reasons.proofs.Between.{Knows, knows_all, Agrees}
 use Rattle.reasons.proofs.Marking.{Marks, marks_all, tags_after, unseen, ends, agrees_escaped}
 use Rattle.reasons.proofs.Marking as marking
@@ -202,7 +204,7 @@ module _ (t : Tables) (ps : Span) (rs : List Row) (sound : Sound t) (parameters 
       let a = filter (λ i. done (declaration_of t.env i.0)) own in
       let b = filter (λ i. done (declaration_of t.env i.0)) (visits t.env (instances.pass_acts rs)) in
       sym (over_append (admit t.env) js (covers reasons.SameDeclaration a) (covers reasons.SameDeclaration b))
-      ∙ ap (over (admit t.env) js) (sym (covers_append reasons.SameDeclaration a b) ∙ ap (covers reasons.SameDeclaration) (sym (filter_append (λ i. done (declaration_of t.env i.0)) own (visits t.env (instances.pass_acts rs)))))
+      ∙ ap (over (admit t.env) js) (sym (covers_append reasons.SameDeclaration a b) ∙ ap (covers reasons.SameDeclaration) (sym (filter-append (λ i. done (declaration_of t.env i.0)) own (visits t.env (instances.pass_acts rs)))))
       ∙ ap (λ x. over (admit t.env) x (late t.env ps rs)) (firsts_all t.env (early t.env ps rs ++ fifth))
       ∙ sym (over_append (admit t.env) [] (early t.env ps rs ++ fifth) (late t.env ps rs))
       ∙ ap (over (admit t.env) []) (append_assoc (early t.env ps rs) fifth (late t.env ps rs))

@@ -1,5 +1,7 @@
 -- Naming the identifiers of a list under a condition, seen as admitting coverings. Assumes nothing.
 use Rattle.std.proofs.Common.{◌≡◌, ℕ, Bool, true, false, not, ◌&&◌, ◌||◌, List, [], ◌∷◌, ◌++◌, sym, refl, ap, ◌∙◌, subst, ⊎_elim, arith}
+use Rattle.std.specs.List.{filter}
+use Rattle.std.proofs.lemmas.List.Folds.{list_any-append}
 use Rattle.std.proofs.lemmas.Bool.{cases_Bool, cond-true, cond-false, eq-eqb, ne_eqb, and_parts}
 use Rattle.hir.specs.declared.ids.IdentifierId.{IdentifierId}
 use Rattle.hir.specs.declared.tables.JournalRow.{JournalRow}
@@ -12,9 +14,9 @@ use Rattle.promote.specs.Growth.{Grows}
 use Rattle.promote.specs.Identifier.{promoted, promote_if, promote_unnamed, is_unnamed, row}
 use Rattle.promote.proofs.Growing.{grows_if, sound_grows}
 use Rattle.reasons.specs.Journals.{declares}
-use Rattle.reasons.specs.Coverings.{covers, filter}
+use Rattle.reasons.specs.Coverings.{covers}
 use Rattle.reasons.proofs.Bools.{or_true, or_false, and_true, and_false}
-use Rattle.reasons.proofs.Admitting.{taken, admit, some_append}
+use Rattle.reasons.proofs.Admitting.{taken, admit}
 use Rattle.reasons.proofs.Views.{View, view_unnamed, view_promoted}
 
 -- how the flags of named declarations go on with the journal
@@ -83,8 +85,8 @@ unnamed_is why t i = ap (λ b. promote_if b why t i) (sym (and_true (is_unnamed 
 -- in the passes before the last, a declaration is promoted once a row of it is journalled
 pub goes_declares : (m : Model) (keep : IdentifierId → Bool) → Goes m (declares m) keep
 goes_declares m keep = record {
-  here = λ js r e. some_append _ js (r ∷ []) ∙ ap (λ b. declares m js (declaration_of m r.identifier.0) || (b || false)) (eq-eqb _ _ refl) ∙ or_true (declares m js (declaration_of m r.identifier.0));
-  there = λ js r d ne. some_append _ js (r ∷ []) ∙ ap (λ b. declares m js d || (b || false)) (ne_eqb (declaration_of m r.identifier.0) d (λ e. ne (sym e))) ∙ or_false (declares m js d);
+  here = λ js r e. list_any-append _ js (r ∷ []) ∙ ap (λ b. declares m js (declaration_of m r.identifier.0) || (b || false)) (eq-eqb _ _ refl) ∙ or_true (declares m js (declaration_of m r.identifier.0));
+  there = λ js r d ne. list_any-append _ js (r ∷ []) ∙ ap (λ b. declares m js d || (b || false)) (ne_eqb (declaration_of m r.identifier.0) d (λ e. ne (sym e))) ∙ or_false (declares m js d);
 }
 
 -- in the last pass nothing is added to them

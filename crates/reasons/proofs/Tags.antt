@@ -1,5 +1,6 @@
 -- Which declarations the first pass notes as those of tags. Assumes nothing.
 use Rattle.std.proofs.Common.{◌≡◌, ℕ, Bool, true, false, cond, ◌&&◌, ◌||◌, eqb, leb, List, [], ◌∷◌, ◌++◌, map, length, sym, refl, ap, ◌∙◌, ⊎_elim, arith}
+use Rattle.std.proofs.lemmas.List.Folds.{list_any-append}
 use Rattle.std.proofs.lemmas.Bool.{cases_Bool, cond-true, cond-false, eqb-true, ne_eqb}
 use Rattle.hir.specs.Environments.{Model, declaration_of}
 use Rattle.hir.specs.Lists.{over}
@@ -13,7 +14,6 @@ use Rattle.walk.specs.Events.{Event, leaving, closing, staying, events, acts_of}
 use Rattle.collect.specs.Promotable as table
 use Rattle.reasons.specs.Coverings.{upper}
 use Rattle.reasons.proofs.Bools.{or_false, or_assoc}
-use Rattle.reasons.proofs.Admitting.{some_append}
 use Rattle.reasons.proofs.Early.{Static}
 use Rattle.reasons.proofs.Marking.{tags_after, tagging}
 
@@ -56,7 +56,7 @@ module _ (m : Model) (static : Static m) (d : ℕ) where
   of_leaf : (r : Row) → list_any flagged (table.leaf_acts r) ≡ (eqb r.kind 15 && list_any (λ i. eqb (declaration_of m i.0) d) r.marks)
   unfolding flagged
   of_leaf r =
-      some_append flagged (map table.sees r.operands) (cond (eqb r.kind 15) (map table.flags r.marks) [])
+      list_any-append flagged (map table.sees r.operands) (cond (eqb r.kind 15) (map table.flags r.marks) [])
       ∙ ap (λ b. b || list_any flagged (cond (eqb r.kind 15) (map table.flags r.marks) [])) (some_none flagged table.sees r.operands (λ i. refl))
       ∙ ⊎_elim
       (λ e. ap (list_any flagged) (cond-true _ _ _ e) ∙ some_map flagged table.flags r.marks ∙ sym (ap (λ b. b && list_any (λ i. eqb (declaration_of m i.0) d) r.marks) e))
@@ -105,7 +105,7 @@ module _ (m : Model) (static : Static m) (d : ℕ) where
       ⊎_elim
       (λ e.
       ap (λ es. list_any flagged (acts_of table.acts es)) (cond-true _ _ _ e)
-      ∙ some_append flagged (table.acts (leaving r)) (acts_of table.acts (closing n around))
+      ∙ list_any-append flagged (table.acts (leaving r)) (acts_of table.acts (closing n around))
       ∙ ap (λ b. b || list_any flagged (acts_of table.acts (closing n around))) (of_leaving r)
       ∙ of_closing n around)
       (λ e. ap (λ es. list_any flagged (acts_of table.acts es)) (cond-false _ _ _ e))
@@ -114,10 +114,10 @@ module _ (m : Model) (static : Static m) (d : ℕ) where
   acts_append : (xs ys : List Event) → list_any flagged (acts_of table.acts (xs ++ ys)) ≡ (list_any flagged (acts_of table.acts xs) || list_any flagged (acts_of table.acts ys))
   acts_append [] ys = refl
   acts_append (x ∷ xs) ys =
-      some_append flagged (table.acts x) (acts_of table.acts (xs ++ ys))
+      list_any-append flagged (table.acts x) (acts_of table.acts (xs ++ ys))
       ∙ ap (λ b. list_any flagged (table.acts x) || b) (acts_append xs ys)
       ∙ sym (or_assoc (list_any flagged (table.acts x)) (list_any flagged (acts_of table.acts xs)) (list_any flagged (acts_of table.acts ys)))
-      ∙ ap (λ b. b || list_any flagged (acts_of table.acts ys)) (sym (some_append flagged (table.acts x) (acts_of table.acts xs)))
+      ∙ ap (λ b. b || list_any flagged (acts_of table.acts ys)) (sym (list_any-append flagged (table.acts x) (acts_of table.acts xs)))
 
   of_rows : (around : List RowHead) (rs : List Row) → list_any flagged (acts_of table.acts (events around rs)) ≡ list_any tags rs
   of_rows around [] = of_closing 0 around
@@ -126,7 +126,7 @@ module _ (m : Model) (static : Static m) (d : ℕ) where
       let rest = acts_of table.acts (events (head r ∷ on) rs) in
       acts_append (closing r.depth around) _
       ∙ ap (λ b. b || list_any flagged (table.row_acts r ++ rest)) (of_closing r.depth around)
-      ∙ some_append flagged (table.row_acts r) rest
+      ∙ list_any-append flagged (table.row_acts r) rest
       ∙ (λ k. of_row r k || of_rows (head r ∷ on) rs k)
 
   -- a declaration is noted as that of a tag exactly when it has the letter T

@@ -8,7 +8,7 @@ use Rattle.hir.specs.declared.tables.Reason.{Reason}
 use Rattle.hir.specs.declared.tables.Reason.TheVariants as reasons
 use Rattle.hir.specs.Environments.{Model, declaration_of, scope_of, function_of}
 use Rattle.hir.specs.Lists.{over}
-use Rattle.std.specs.List.{list_any}
+use Rattle.std.specs.List.{filter, list_any}
 use Rattle.hir.specs.Spans.{identifiers_in, functions_in}
 use Rattle.reactive.specs.declared.code.Code.TheVariants as codes
 use Rattle.reactive.specs.Rows.{Row, is}
@@ -22,10 +22,6 @@ use Rattle.reasons.specs.Interposed.{interposed}
 -- coverings of identifiers for one reason
 abbrev pub covers : Reason → List IdentifierId → List JournalRow
 covers why is = map (λ i. record { identifier = i; reason = why }) is
-
-abbrev pub filter : {A : Type 0} → (A → Bool) → List A → List A
-filter p [] = []
-filter p (x ∷ xs) = cond (p x) (x ∷ filter p xs) (filter p xs)
 
 -- the functions visited so far, and the coverings
 pub record Covered : Type 0 where
