@@ -12,7 +12,8 @@ use Rattle.hir.specs.declared.span.Span.{Span}
 use Rattle.hir.specs.declared.tables.Reason.TheVariants as reasons
 use Rattle.hir.specs.declared.tables.JournalRow.{JournalRow}
 use Rattle.hir.specs.Environments.{Model, journal_of}
-use Rattle.hir.specs.Lists.{Each, over}
+use Rattle.hir.specs.Lists.{Each}
+use Rattle.std.specs.List.{fold}
 use Rattle.hir.specs.Refusals.{answered}
 use Rattle.hir.specs.Scratches.{Notes, Tables}
 use Rattle.hir.specs.Sound.{Sound, Known, KnownIn}
@@ -162,7 +163,7 @@ module _ (ps : Span) (rs : List Row) where
   pub grows_collect : (t : Tables) → Passable t ps rs → Grows t (collects.collected t rs)
   grows_collect t p = keeping.grows_collected t rs
 
-  grows_parameters : (f : Tables → IdentifierId → Tables) → ((t : Tables) (i : IdentifierId) → Sound t → Known t.env i → Grows t (f t i)) → (t : Tables) → Passable t ps rs → Grows t (over f t (identifiers_in t.env.pool ps))
+  grows_parameters : (f : Tables → IdentifierId → Tables) → ((t : Tables) (i : IdentifierId) → Sound t → Known t.env i → Grows t (f t i)) → (t : Tables) → Passable t ps rs → Grows t (fold f t (identifiers_in t.env.pool ps))
   grows_parameters f one t p = grows_each f one t _ p.sound p.parameters
 
   pub grows_temporaries : (t : Tables) → Passable t ps rs → Grows t (temporaries.promote_temporaries t ps rs)

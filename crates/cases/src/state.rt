@@ -6,8 +6,8 @@ ghost use Rattle.hir.specs.Scratches.{noted};
 use hir::environment::Environment;
 use hir::ids::{DeclarationId, IdentifierId, ScopeId};
 use hir::scratch::{Scratch, Trail, Work};
-use hir::tag::Tag;
 use hir::tables::{Function, Identifier, JournalRow, Reason, Scope};
+use hir::tag::Tag;
 use std::alloc::{AllocError, Global};
 
 // How much scratch there is, or is needed.

@@ -6,7 +6,8 @@ use Rattle.hir.specs.declared.ids.ScopeId.{ScopeId}
 use Rattle.hir.specs.declared.scratch.Trail.{Trail}
 use Rattle.hir.specs.declared.scratch.Work.{Work}
 use Rattle.hir.specs.Environments.{Model}
-use Rattle.hir.specs.Lists.{Each, over}
+use Rattle.hir.specs.Lists.{Each}
+use Rattle.std.specs.List.{fold}
 use Rattle.hir.specs.Scratches.{Notes, Tables, work_of, no_work, no_trail}
 use Rattle.hir.specs.Sound.{Sound, Known}
 use Rattle.reactive.specs.Rows.{Row}
@@ -57,7 +58,7 @@ noted_noting used f t i low =
 noted_recorded : (used : ℕ) (innermost : Option ℕ) → reach innermost ≤ used → (t : Tables) (i : IdentifierId) → Noted used t (recorded_at innermost t i)
 noted_recorded used innermost low t i = noted_noting used (as_recorded innermost) t i (λ h. low)
 
-noted_each : (used : ℕ) (innermost : Option ℕ) → reach innermost ≤ used → (t : Tables) (is : List IdentifierId) → Noted used t (over (recorded_at innermost) t is)
+noted_each : (used : ℕ) (innermost : Option ℕ) → reach innermost ≤ used → (t : Tables) (is : List IdentifierId) → Noted used t (fold (recorded_at innermost) t is)
 noted_each used innermost low t [] = noted_none used t
 noted_each used innermost low t (i ∷ is) = noted_trans (noted_recorded used innermost low t i) (noted_each used innermost low (recorded_at innermost t i) is)
 
@@ -175,11 +176,11 @@ env_does w (prunes s) = (noted_each (reach w.visitor.innermost) w.visitor.innerm
 env_does w (sees i) = (noted_used w.visitor.used w.visitor.innermost w.tables i).env
 env_does w (flags i) = refl
 
-grows_over : (w : Whole CollectPromotable) (todo : List Act) → Grows w.tables (over does w todo).tables
+grows_over : (w : Whole CollectPromotable) (todo : List Act) → Grows w.tables (fold does w todo).tables
 grows_over w [] = grows_none w.tables
 grows_over w (a ∷ todo) = grows_trans (grows_does w a) (grows_over (does w a) todo)
 
-env_over : (w : Whole CollectPromotable) (todo : List Act) → (over does w todo).tables.env ≡ w.tables.env
+env_over : (w : Whole CollectPromotable) (todo : List Act) → (fold does w todo).tables.env ≡ w.tables.env
 env_over w [] = refl
 env_over w (a ∷ todo) = env_over (does w a) todo ∙ env_does w a
 

@@ -1,7 +1,7 @@
 -- A Leaf: the uses of its operands, and then its tags. Assumes nothing.
 use Rattle.std.proofs.Common.{◌≡◌, true, ◌==◌, ◌++◌, map, sym, ap, ◌∙◌, subst}
 use Rattle.std.proofs.lemmas.Bool.{cond-true}
-use Rattle.hir.specs.Lists.{over}
+use Rattle.std.specs.List.{fold}
 use Rattle.reactive.specs.Rows.{Row}
 use Rattle.walk.specs.Events.{Whole}
 use Rattle.walk.proofs.Acting.{ready_onward, over_onward}
@@ -14,12 +14,12 @@ module _ (r : Row) (w : Whole CollectPromotable) (ready : Ready w (leaf_acts r))
   ready_uses = splits.front w (map sees r.operands) _ ready
 
   -- where it is a JSX expression
-  module _ (is : (r.kind == 15) ≡ true) (v : Whole CollectPromotable) (went : v ≡ over does w (map sees r.operands)) where
+  module _ (is : (r.kind == 15) ≡ true) (v : Whole CollectPromotable) (went : v ≡ fold does w (map sees r.operands)) where
     leaf_acts_begin : leaf_acts r ≡ map sees r.operands ++ map flags r.marks
     leaf_acts_begin = ap (λ xs. map sees r.operands ++ xs) (cond-true _ _ _ is)
 
     pub ready_tags : Ready v (map flags r.marks)
     ready_tags = ready_onward does Ready splits w v _ _ (subst (Ready w) leaf_acts_begin ready) went
 
-    pub leaf_done : (on : Whole CollectPromotable) → on ≡ over does v (map flags r.marks) → on ≡ over does w (leaf_acts r)
-    leaf_done on h = over_onward does Ready splits w v on (map sees r.operands) (map flags r.marks) went h ∙ ap (over does w) (sym leaf_acts_begin)
+    pub leaf_done : (on : Whole CollectPromotable) → on ≡ fold does v (map flags r.marks) → on ≡ fold does w (leaf_acts r)
+    leaf_done on h = over_onward does Ready splits w v on (map sees r.operands) (map flags r.marks) went h ∙ ap (fold does w) (sym leaf_acts_begin)

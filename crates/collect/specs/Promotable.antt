@@ -5,7 +5,8 @@ use Rattle.hir.specs.declared.ids.ScopeId.{ScopeId}
 use Rattle.hir.specs.declared.scratch.Trail.{Trail}
 use Rattle.hir.specs.declared.scratch.Work.{Work}
 use Rattle.hir.specs.Environments.{Model, declaration_of, scope_of}
-use Rattle.hir.specs.Lists.{over, Each}
+use Rattle.hir.specs.Lists.{Each}
+use Rattle.std.specs.List.{fold}
 use Rattle.hir.specs.Scratches.{Notes, Tables, both, work_of}
 use Rattle.hir.specs.Sound.{Sound, Known}
 use Rattle.hir.specs.Spans.{identifiers_in}
@@ -91,7 +92,7 @@ does w (opens s) =
     whole (at (Some w.visitor.used) (w.visitor.used + 1))
     (both w.tables.env (with_trail w.tables.notes w.visitor.used (trail_row s w.visitor.innermost)))
 does w shuts = whole (at (around w.tables.notes w.visitor.innermost) w.visitor.used) w.tables
-does w (prunes s) = whole w.visitor (over (recorded_at w.visitor.innermost) w.tables (declared_in w.tables.env s))
+does w (prunes s) = whole w.visitor (fold (recorded_at w.visitor.innermost) w.tables (declared_in w.tables.env s))
 does w (sees i) = whole w.visitor (used_at w.visitor.innermost w.tables i)
 does w (flags i) = whole w.visitor (noting as_tag w.tables i)
 
@@ -161,4 +162,4 @@ begun t = whole (at None 0) t
 
 -- what the rows leave
 abbrev pub collected : Tables → List Row → Tables
-collected t rs = (over does (begun t) (pass_acts rs)).tables
+collected t rs = (fold does (begun t) (pass_acts rs)).tables

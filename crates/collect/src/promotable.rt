@@ -1,7 +1,8 @@
 // The first pass over a tree, which only notes in scratch what later passes name.
 ghost use Rattle.std.specs.Prelude.{◌≡◌, ◌+◌, ◌^◌, ◌<◌, ◌≤◌, [], ◌∷◌, Some, IfSome, map, length};
 ghost use Rattle.hir.specs.Environments.{model};
-ghost use Rattle.hir.specs.Lists.{over, Each};
+ghost use Rattle.hir.specs.Lists.{Each};
+ghost use Rattle.std.specs.List.{fold};
 ghost use Rattle.hir.specs.Scratches.{tables, noted};
 ghost use Rattle.hir.specs.Sound.{Sound, Known};
 ghost use Rattle.reactive.specs.Rows.{rewound};
@@ -113,7 +114,7 @@ impl CollectPromotable {
         row: &GivenRow<S>,
     )
         requires { Ready (whole self (tables env.now scratch.old)) (map sees row.now.operands) }
-        ensures { whole self (tables env.now scratch.new) ≡ over does (whole self (tables env.now scratch.old)) (map sees row.now.operands) }
+        ensures { whole self (tables env.now scratch.new) ≡ fold does (whole self (tables env.now scratch.old)) (map sees row.now.operands) }
     {
         for id in row.operands() {
             self.collect_promotable_place(env, scratch, id);
@@ -137,7 +138,7 @@ impl CollectPromotable {
         row: &GivenRow<S>,
     )
         requires { Ready (whole self (tables env.now scratch.old)) (map flags row.now.marks) }
-        ensures { whole self (tables env.now scratch.new) ≡ over does (whole self (tables env.now scratch.old)) (map flags row.now.marks) }
+        ensures { whole self (tables env.now scratch.new) ≡ fold does (whole self (tables env.now scratch.old)) (map flags row.now.marks) }
     {
         for id in row.marks() {
             self.collect_promotable_tag(env, scratch, id);
@@ -152,7 +153,7 @@ impl CollectPromotable {
         row: &GivenRow<S>,
     )
         requires { Ready (whole self (tables env.now scratch.old)) (leaf_acts row.now) }
-        ensures { whole self (tables env.now scratch.new) ≡ over does (whole self (tables env.now scratch.old)) (leaf_acts row.now) }
+        ensures { whole self (tables env.now scratch.new) ≡ fold does (whole self (tables env.now scratch.old)) (leaf_acts row.now) }
     {
         self.collect_promotable_operands(env, scratch, row);
         if row.head().is_kind(Kind::JsxExpression) {

@@ -5,7 +5,8 @@ use Rattle.hir.specs.declared.ids.FunctionId.{FunctionId}
 use Rattle.hir.specs.declared.ids.IdentifierId.{IdentifierId}
 use Rattle.hir.specs.declared.tables.Reason.TheVariants as reasons
 use Rattle.hir.specs.Environments.{Model}
-use Rattle.hir.specs.Lists.{Each, over}
+use Rattle.hir.specs.Lists.{Each}
+use Rattle.std.specs.List.{fold}
 use Rattle.hir.specs.Scratches.{Tables}
 use Rattle.hir.specs.Sound.{Sound, Known, KnownFunction}
 use Rattle.reactive.specs.declared.row.RowHead.{RowHead}
@@ -25,11 +26,11 @@ use Rattle.instances.specs.Instances.{Act, again, parameters, leaves, promote_in
 pub grows_instance : (t : Tables) (i : IdentifierId) → Sound t → Known t.env i → Grows t (promote_instance t i)
 grows_instance t i s h = grows_if _ reasons.SameDeclaration t i (λ e. (and_parts (is_unnamed t.env i) _ e).0) s h
 
-pub grows_list : (t : Tables) (is : List IdentifierId) → Sound t → Each (Known t.env) is → Grows t (over promote_instance t is)
+pub grows_list : (t : Tables) (is : List IdentifierId) → Sound t → Each (Known t.env) is → Grows t (fold promote_instance t is)
 grows_list = grows_each promote_instance grows_instance
 
 -- lists that were known before the naming
-on_list : (b t : Tables) → Sound b → Grows b t → (is : List IdentifierId) → Each (Known b.env) is → Grows b (over promote_instance t is)
+on_list : (b t : Tables) → Sound b → Grows b t → (is : List IdentifierId) → Each (Known b.env) is → Grows b (fold promote_instance t is)
 on_list b t s g is h =
     let P : ℕ → Type 0 = λ n. Each (λ (j : IdentifierId). j.0 < n) is in
     grows_trans g (grows_list t is (sound_grows s g) (subst P (sym (kept g.named).size) h))
@@ -52,7 +53,7 @@ splits = passing.splits does Fits fits_kept grows_does
 pub ready_grows : (b t : Tables) (todo : List Act) → Ready b todo → Grows b t → Ready t todo
 ready_grows = passing.ready_grows does Fits fits_kept grows_does
 
-pub grows_over : (t : Tables) (todo : List Act) → Ready t todo → Grows t (over does t todo)
+pub grows_over : (t : Tables) (todo : List Act) → Ready t todo → Grows t (fold does t todo)
 grows_over = passing.grows_over does Fits fits_kept grows_does
 
 -- a Leaf: its operands, and the parameters of its function
@@ -69,7 +70,7 @@ module _ (p : Option RowHead) (r : Row) (q : RowHead) (e : q ≡ head r) (is : t
     pub ready_operands : Ready t (map again r.operands)
     ready_operands = splits.front t _ _ ready_leaf
 
-    module _ (v : Tables) (went : v ≡ over does t (map again r.operands)) where
+    module _ (v : Tables) (went : v ≡ fold does t (map again r.operands)) where
       ready_rest : Ready v (map parameters (listed (function_in q.number)))
       ready_rest = ready_onward does Ready splits t v _ _ ready_leaf went
 
@@ -77,11 +78,11 @@ module _ (p : Option RowHead) (r : Row) (q : RowHead) (e : q ≡ head r) (is : t
         pub ready_function : Ready v (parameters f ∷ [])
         ready_function = let P : Option FunctionId → Type 0 = λ o. Ready v (map parameters (listed o)) in subst P (sym has) ready_rest
 
-        pub leaf_done : (on : Tables) → on ≡ does v (parameters f) → on ≡ over does t (acts (entering p r))
+        pub leaf_done : (on : Tables) → on ≡ does v (parameters f) → on ≡ fold does t (acts (entering p r))
         leaf_done on h =
             over_onward does Ready splits t v on (map again r.operands) (parameters f ∷ []) went h
-            ∙ ap (λ o. over does t (map again r.operands ++ map parameters (listed o))) has
-            ∙ ap (over does t) (sym leaf_acts)
+            ∙ ap (λ o. fold does t (map again r.operands ++ map parameters (listed o))) has
+            ∙ ap (fold does t) (sym leaf_acts)
 
 -- the acts of sound rows speak of what has a row
 module _ (m : Model) where

@@ -6,7 +6,7 @@ use Rattle.hir.specs.declared.ids.ScopeId.{ScopeId}
 use Rattle.hir.specs.declared.span.Span.{Span}
 use Rattle.hir.specs.declared.tables.Reason.TheVariants as reasons
 use Rattle.hir.specs.Environments.{Model, declaration_of, scope_of, function_of}
-use Rattle.hir.specs.Lists.{over}
+use Rattle.std.specs.List.{fold}
 use Rattle.hir.specs.Scratches.{Tables, work_of}
 use Rattle.hir.specs.Sound.{Known, KnownFunction}
 use Rattle.hir.specs.Spans.{identifiers_in}
@@ -32,11 +32,11 @@ promote_instance t i = promote_if (is_unnamed t.env i && (work_of t.notes (decla
 
 abbrev pub does : Tables → Act → Tables
 does t (again i) = promote_instance t i
-does t (parameters f) = over promote_instance t (identifiers_in t.env.pool (function_of t.env f.0).parameters)
+does t (parameters f) = fold promote_instance t (identifiers_in t.env.pool (function_of t.env f.0).parameters)
 does t (leaves s) =
-    over promote_instance
-    (over promote_instance
-    (over promote_instance t (identifiers_in t.env.pool (scope_of t.env s.0).declarations))
+    fold promote_instance
+    (fold promote_instance
+    (fold promote_instance t (identifiers_in t.env.pool (scope_of t.env s.0).declarations))
     (identifiers_in t.env.pool (scope_of t.env s.0).dependencies))
     (identifiers_in t.env.pool (scope_of t.env s.0).reassignments)
 
@@ -65,4 +65,4 @@ Readies w e = Ready w.tables (acts e)
 
 -- own parameters are visited, and then the rows
 abbrev pub promote_all_instances : Tables → Span → List Row → Tables
-promote_all_instances t ps rs = over does (over promote_instance t (identifiers_in t.env.pool ps)) (pass_acts rs)
+promote_all_instances t ps rs = fold does (fold promote_instance t (identifiers_in t.env.pool ps)) (pass_acts rs)

@@ -1,6 +1,7 @@
 ghost use Rattle.std.specs.Prelude.{◌≡◌, ℕ, ◌<◌, map, length};
 ghost use Rattle.hir.specs.Environments.{model};
-ghost use Rattle.hir.specs.Lists.{over, Each};
+ghost use Rattle.hir.specs.Lists.{Each};
+ghost use Rattle.std.specs.List.{fold};
 ghost use Rattle.hir.specs.Scratches.{tables};
 ghost use Rattle.hir.specs.Sound.{Sound, Known, KnownIn, KnownFunction};
 ghost use Rattle.hir.specs.Spans.{identifiers_in};
@@ -35,7 +36,7 @@ fn promote_all_instances_place(env: &mut Environment, scratch: &mut Scratch, id:
 fn promote_all_instances_list(env: &mut Environment, scratch: &mut Scratch, list: Span)
     requires known { KnownIn (model env.old) list }
     requires sound { Sound (tables env.old scratch.old) }
-    ensures { tables env.new scratch.new ≡ over promote_instance (tables env.old scratch.old) (identifiers_in env.old.pool.now list) }
+    ensures { tables env.new scratch.new ≡ fold promote_instance (tables env.old scratch.old) (identifiers_in env.old.pool.now list) }
 {
     for n in list.of(env.pool) {
         promote_all_instances_place(env, scratch, IdentifierId(*n));
@@ -65,7 +66,7 @@ fn promote_all_instances_operands<S: TreeSource>(
     row: &GivenRow<S>,
 )
     requires { Ready (tables env.old scratch.old) (map again row.now.operands) }
-    ensures { tables env.new scratch.new ≡ over does (tables env.old scratch.old) (map again row.now.operands) }
+    ensures { tables env.new scratch.new ≡ fold does (tables env.old scratch.old) (map again row.now.operands) }
 {
     for id in row.operands() {
         promote_all_instances_place(env, scratch, id);

@@ -5,7 +5,8 @@ use Rattle.hir.specs.declared.ids.IdentifierId.{IdentifierId}
 use Rattle.hir.specs.declared.scratch.Work.{Work}
 use Rattle.hir.specs.declared.tables.Reason.TheVariants as reasons
 use Rattle.hir.specs.Environments.{Model}
-use Rattle.hir.specs.Lists.{Each, over}
+use Rattle.hir.specs.Lists.{Each}
+use Rattle.std.specs.List.{fold}
 use Rattle.hir.specs.Scratches.{Tables}
 use Rattle.hir.specs.Sound.{Sound, Known}
 use Rattle.reactive.specs.declared.row.RowHead.{RowHead}
@@ -96,7 +97,7 @@ ready_back w a more r =
 pub splits : Splits does Ready
 splits = record { front = ready_front; back = ready_back }
 
-pub grows_over : (w : State) (todo : List Act) → Ready w todo → Grows w.tables (over does w todo).tables
+pub grows_over : (w : State) (todo : List Act) → Ready w todo → Grows w.tables (fold does w todo).tables
 unfolding most
 grows_over w [] r = grows_none w.tables
 grows_over w (a ∷ todo) r = grows_trans (step_does w a (ready_front w (a ∷ []) todo r)).grows (grows_over (does w a) todo (ready_back w a todo r))
@@ -115,25 +116,25 @@ module _ (l : Option IdentifierId) (k mode : ℕ) (ms os : List IdentifierId) (w
   pub ready_begin : Ready w (fix_acts k mode ms)
   ready_begin = ready_front w (fix_acts k mode ms) _ ready
 
-  module _ (a : State) (ea : a ≡ over does w (fix_acts k mode ms)) where
+  module _ (a : State) (ea : a ≡ fold does w (fix_acts k mode ms)) where
     after_begin : Ready a (value_acts k l ms ++ (map uses os ++ end_acts k mode l))
     after_begin = ready_onward does Ready splits w a (fix_acts k mode ms) _ ready ea
 
     pub ready_value : Ready a (value_acts k l ms)
     ready_value = ready_front a (value_acts k l ms) _ after_begin
 
-    module _ (b : State) (eb : b ≡ over does a (value_acts k l ms)) where
+    module _ (b : State) (eb : b ≡ fold does a (value_acts k l ms)) where
       after_value : Ready b (map uses os ++ end_acts k mode l)
       after_value = ready_onward does Ready splits a b (value_acts k l ms) _ after_begin eb
 
       pub ready_uses : Ready b (map uses os)
       ready_uses = ready_front b (map uses os) _ after_value
 
-      module _ (c : State) (ec : c ≡ over does b (map uses os)) where
+      module _ (c : State) (ec : c ≡ fold does b (map uses os)) where
         pub ready_end : Ready c (end_acts k mode l)
         ready_end = ready_onward does Ready splits b c (map uses os) _ after_value ec
 
-        pub leaf_done : (d : State) → d ≡ over does c (end_acts k mode l) → d ≡ over does w (leaf_acts l k mode ms os)
+        pub leaf_done : (d : State) → d ≡ fold does c (end_acts k mode l) → d ≡ fold does w (leaf_acts l k mode ms os)
         leaf_done d ed =
             over_onward does Ready splits w a d (fix_acts k mode ms) _ ea
             (over_onward does Ready splits a b d (value_acts k l ms) _ eb

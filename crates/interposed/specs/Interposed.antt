@@ -2,7 +2,7 @@
 use Rattle.std.specs.Prelude.{ℕ, cond, List, [], ◌∷◌, ◌++◌, map, Some, None, Option, ◌==◌}
 use Rattle.hir.specs.declared.ids.IdentifierId.{IdentifierId}
 use Rattle.hir.specs.declared.span.Span.{Span}
-use Rattle.hir.specs.Lists.{over}
+use Rattle.std.specs.List.{fold}
 use Rattle.hir.specs.Scratches.{Tables}
 use Rattle.hir.specs.Spans.{identifiers_in}
 use Rattle.reactive.specs.declared.code.Code.TheVariants as codes
@@ -67,4 +67,4 @@ abbrev pub begun : Tables → State
 begun t = whole (record { epoch = 1 }) t
 
 abbrev pub promote_interposed : Tables → Span → List Row → Tables
-promote_interposed t ps rs = (over does (begun t) (pass_acts (identifiers_in t.env.pool ps) rs)).tables
+promote_interposed t ps rs = (fold does (begun t) (pass_acts (identifiers_in t.env.pool ps) rs)).tables

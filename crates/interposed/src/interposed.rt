@@ -1,5 +1,6 @@
 ghost use Rattle.std.specs.Prelude.{◌≡◌, map};
-ghost use Rattle.hir.specs.Lists.{over, Each};
+ghost use Rattle.hir.specs.Lists.{Each};
+ghost use Rattle.std.specs.List.{fold};
 ghost use Rattle.hir.specs.Scratches.{tables};
 ghost use Rattle.hir.specs.Spans.{identifiers_in};
 ghost use Rattle.reactive.specs.Kinds.{kind_number};
@@ -26,7 +27,7 @@ impl PromoteInterposed {
     // The marks of a row become constant. Every pass loops over lists itself: a rule of this project.
     fn fix_marks<S: TreeSource>(&self, env: &Environment, scratch: &mut Scratch, row: &GivenRow<S>)
         requires { Ready (whole self.now (tables env.now scratch.old)) (map fixes row.now.marks) }
-        ensures { whole self.now (tables env.now scratch.new) ≡ over does (whole self.now (tables env.now scratch.old)) (map fixes row.now.marks) }
+        ensures { whole self.now (tables env.now scratch.new) ≡ fold does (whole self.now (tables env.now scratch.old)) (map fixes row.now.marks) }
     {
         for id in row.marks() {
             self.fix(env, scratch, id);
@@ -41,7 +42,7 @@ impl PromoteInterposed {
         row: &GivenRow<S>,
     )
         requires { Ready (whole self.now (tables env.old scratch.old)) (map uses row.now.operands) }
-        ensures { whole self.now (tables env.new scratch.new) ≡ over does (whole self.now (tables env.old scratch.old)) (map uses row.now.operands) }
+        ensures { whole self.now (tables env.new scratch.new) ≡ fold does (whole self.now (tables env.old scratch.old)) (map uses row.now.operands) }
     {
         for id in row.operands() {
             self.use_place(env, scratch, id);
@@ -58,7 +59,7 @@ impl PromoteInterposed {
         row: &GivenRow<S>,
     )
         requires { Ready (whole self.now (tables env.now scratch.old)) (fix_acts (kind_number kind) mode row.now.marks) }
-        ensures { whole self.now (tables env.now scratch.new) ≡ over does (whole self.now (tables env.now scratch.old)) (fix_acts (kind_number kind) mode row.now.marks) }
+        ensures { whole self.now (tables env.now scratch.new) ≡ fold does (whole self.now (tables env.now scratch.old)) (fix_acts (kind_number kind) mode row.now.marks) }
     {
         if fixes_marks(kind, mode) {
             self.fix_marks(env, scratch, row);
@@ -75,7 +76,7 @@ impl PromoteInterposed {
         mark: IdentifierId,
     )
         requires { Ready (whole self.now (tables env.now scratch.old)) (mark_acts (kind_number kind) lvalue mark) }
-        ensures { whole self.now (tables env.now scratch.new) ≡ over does (whole self.now (tables env.now scratch.old)) (mark_acts (kind_number kind) lvalue mark) }
+        ensures { whole self.now (tables env.now scratch.new) ≡ fold does (whole self.now (tables env.now scratch.old)) (mark_acts (kind_number kind) lvalue mark) }
     {
         match kind {
             Kind::LoadLocal | Kind::LoadContext => self.load(env, scratch, lvalue, mark),
@@ -96,7 +97,7 @@ impl PromoteInterposed {
         row: &GivenRow<S>,
     )
         requires { Ready (whole self.now (tables env.now scratch.old)) (value_acts (kind_number kind) lvalue row.now.marks) }
-        ensures { whole self.now (tables env.now scratch.new) ≡ over does (whole self.now (tables env.now scratch.old)) (value_acts (kind_number kind) lvalue row.now.marks) }
+        ensures { whole self.now (tables env.now scratch.new) ≡ fold does (whole self.now (tables env.now scratch.old)) (value_acts (kind_number kind) lvalue row.now.marks) }
     {
         let Some(l) = lvalue else {
             return;
@@ -118,7 +119,7 @@ impl PromoteInterposed {
         mode: u8,
     )
         requires { Ready (whole self.old (tables env.now scratch.old)) (end_acts (kind_number kind) mode lvalue) }
-        ensures { whole self.new (tables env.now scratch.new) ≡ over does (whole self.old (tables env.now scratch.old)) (end_acts (kind_number kind) mode lvalue) }
+        ensures { whole self.new (tables env.now scratch.new) ≡ fold does (whole self.old (tables env.now scratch.old)) (end_acts (kind_number kind) mode lvalue) }
     {
         if may_raise(kind, mode) {
             self.raise(env, scratch, lvalue);
@@ -139,7 +140,7 @@ impl PromoteInterposed {
         row: &GivenRow<S>,
     )
         requires { Ready (whole self.old (tables env.old scratch.old)) (leaf_acts lvalue row.now.kind row.now.mode row.now.marks row.now.operands) }
-        ensures { whole self.new (tables env.new scratch.new) ≡ over does (whole self.old (tables env.old scratch.old)) (leaf_acts lvalue row.now.kind row.now.mode row.now.marks row.now.operands) }
+        ensures { whole self.new (tables env.new scratch.new) ≡ fold does (whole self.old (tables env.old scratch.old)) (leaf_acts lvalue row.now.kind row.now.mode row.now.marks row.now.operands) }
     {
         let head = row.head();
         let Ok(kind) = Kind::try_from(head.kind) else {
@@ -198,7 +199,7 @@ fn fix_parameters(
     parameters: Span,
 )
     requires { Ready (whole visitor.now (tables env.now scratch.old)) (map fixes (identifiers_in env.now.pool.now parameters)) }
-    ensures { whole visitor.now (tables env.now scratch.new) ≡ over does (whole visitor.now (tables env.now scratch.old)) (map fixes (identifiers_in env.now.pool.now parameters)) }
+    ensures { whole visitor.now (tables env.now scratch.new) ≡ fold does (whole visitor.now (tables env.now scratch.old)) (map fixes (identifiers_in env.now.pool.now parameters)) }
 {
     for n in parameters.of(env.pool) {
         visitor.fix(env, scratch, IdentifierId(*n));

@@ -5,13 +5,13 @@ use calls::requests::{Answer, Reply, Request, RequestError};
 use hir::environment::Environment;
 use hir::ids::IdentifierId;
 use hir::tables::JournalRow;
+use hir::unknown::Unknown;
 use naming::decimal::Decimal;
 use reactive::code::Code;
 use reactive::given::GivenRow;
 use reactive::kind::Kind;
 use reactive::row::{Number, RowHead};
 use reactive::source::TreeSource;
-use hir::unknown::Unknown;
 use std::{fmt, io};
 
 // Prints the case that a byte stands for, or `?`.

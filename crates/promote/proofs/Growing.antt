@@ -10,7 +10,8 @@ use Rattle.hir.specs.declared.tables.Function.{Function}
 use Rattle.hir.specs.declared.tables.JournalRow.{JournalRow}
 use Rattle.hir.specs.declared.tables.Reason.{Reason}
 use Rattle.hir.specs.Environments.{Model, no_identifier, no_scope, no_function, with_tag, tag_of, declaration_of, scope_of, function_of, unnamed}
-use Rattle.hir.specs.Lists.{Each, over}
+use Rattle.hir.specs.Lists.{Each}
+use Rattle.std.specs.List.{fold}
 use Rattle.hir.specs.Scratches.{Tables, work_of}
 use Rattle.hir.specs.Sound.{Sound, ScopeSound, FunctionSound, Known, KnownIn, KnownFunction}
 use Rattle.hir.specs.Spans.{identifiers_in, functions_in}
@@ -148,7 +149,7 @@ pub grows_unnamed : (why : Reason) (t : Tables) (i : IdentifierId) → Sound t �
 grows_unnamed why t i s known = grows_if (is_unnamed t.env i) why t i (λ e. e) s known
 
 -- one identifier after another
-pub grows_each : (f : Tables → IdentifierId → Tables) → ((t : Tables) (i : IdentifierId) → Sound t → Known t.env i → Grows t (f t i)) → (t : Tables) (is : List IdentifierId) → Sound t → Each (Known t.env) is → Grows t (over f t is)
+pub grows_each : (f : Tables → IdentifierId → Tables) → ((t : Tables) (i : IdentifierId) → Sound t → Known t.env i → Grows t (f t i)) → (t : Tables) (is : List IdentifierId) → Sound t → Each (Known t.env) is → Grows t (fold f t is)
 grows_each f one t [] s h = grows_none t
 grows_each f one t (i ∷ is) s h =
     let g = one t i s h.0 in

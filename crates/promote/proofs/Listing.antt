@@ -3,7 +3,8 @@ use Rattle.std.proofs.Common.{◌≡◌, ℕ, ◌+◌, ◌<◌, ◌≤◌, List,
 use Rattle.std.proofs.lemmas.List.{drop_all, drop_more}
 use Rattle.hir.specs.declared.ids.IdentifierId.{IdentifierId}
 use Rattle.hir.specs.declared.span.Span.{Span}
-use Rattle.hir.specs.Lists.{Each, over}
+use Rattle.hir.specs.Lists.{Each}
+use Rattle.std.specs.List.{fold}
 use Rattle.hir.specs.Scratches.{Tables}
 use Rattle.hir.specs.Sound.{Sound, Known, KnownIn}
 use Rattle.hir.specs.Spans.{ident, part, identifiers_in}
@@ -12,7 +13,7 @@ use Rattle.promote.proofs.Growing.{grows_trans, grows_each, kept, known_in_kept,
 
 -- i numbers of a list of the pool had their step
 pub record Listed (f : Tables → IdentifierId → Tables) (start at : Tables) (ns : List ℕ) (i : ℕ) : Type 0 where
-  pub same : over f start (map ident ns) ≡ over f at (map ident (drop i ns))
+  pub same : fold f start (map ident ns) ≡ fold f at (map ident (drop i ns))
   pub sound : Sound at
   pub known : Each (Known at.env) (map ident (drop i ns))
 
@@ -37,14 +38,14 @@ module _ (f : Tables → IdentifierId → Tables) (one : (t : Tables) (i : Ident
       let P : ℕ → Type 0 = λ n. Each (λ (j : IdentifierId). j.0 < n) (map ident (drop (i + 1) ns)) in
       let Q : Tables → Type 0 = λ t. Listed f start t ns (i + 1) in
       subst Q (sym e) (record {
-        same = inv.same ∙ ap (over f at) here;
+        same = inv.same ∙ ap (fold f at) here;
         sound = sound_grows inv.sound g;
         known = subst P (sym (kept g.named).size) knows.1;
       })
 
-pub listed_all : (f : Tables → IdentifierId → Tables) (start at : Tables) (list : Span) (ns : List ℕ) (i : ℕ) → ns ≡ part start.env.pool list → Listed f start at ns i → length ns ≤ i → at ≡ over f start (identifiers_in start.env.pool list)
+pub listed_all : (f : Tables → IdentifierId → Tables) (start at : Tables) (list : Span) (ns : List ℕ) (i : ℕ) → ns ≡ part start.env.pool list → Listed f start at ns i → length ns ≤ i → at ≡ fold f start (identifiers_in start.env.pool list)
 listed_all f start at list ns i e inv past =
-    sym (ap (λ xs. over f start (map ident xs)) (sym e) ∙ inv.same ∙ ap (λ xs. over f at (map ident xs)) (drop_all i ns past))
+    sym (ap (λ xs. fold f start (map ident xs)) (sym e) ∙ inv.same ∙ ap (λ xs. fold f at (map ident xs)) (drop_all i ns past))
 
 -- one list after others, all known from the start
 module _ (f : Tables → IdentifierId → Tables) (one : (t : Tables) (i : IdentifierId) → Sound t → Known t.env i → Grows t (f t i)) (b at : Tables) (s : Sound b) (g : Grows b at) (list : Span) (h : KnownIn b.env list) where
@@ -54,8 +55,8 @@ module _ (f : Tables → IdentifierId → Tables) (one : (t : Tables) (i : Ident
   pub next_known : KnownIn at.env list
   next_known = known_in_kept (kept g.named) list h
 
-  pub next_grows : (on : Tables) → on ≡ over f at (identifiers_in at.env.pool list) → Grows b on
+  pub next_grows : (on : Tables) → on ≡ fold f at (identifiers_in at.env.pool list) → Grows b on
   next_grows on e = grows_trans g (subst (Grows at) (sym e) (grows_each f one at _ next_sound next_known))
 
-  pub next_same : (on : Tables) → on ≡ over f at (identifiers_in at.env.pool list) → on ≡ over f at (identifiers_in b.env.pool list)
-  next_same on e = e ∙ ap (λ p. over f at (identifiers_in p list)) (kept g.named).pool
+  pub next_same : (on : Tables) → on ≡ fold f at (identifiers_in at.env.pool list) → on ≡ fold f at (identifiers_in b.env.pool list)
+  next_same on e = e ∙ ap (λ p. fold f at (identifiers_in p list)) (kept g.named).pool

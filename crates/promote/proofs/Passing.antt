@@ -1,7 +1,8 @@
 -- A pass whose acts only name identifiers. Assumes nothing.
 use Rattle.std.proofs.Common.{List, [], ◌∷◌}
 use Rattle.hir.specs.Environments.{Model}
-use Rattle.hir.specs.Lists.{Each, over}
+use Rattle.hir.specs.Lists.{Each}
+use Rattle.std.specs.List.{fold}
 use Rattle.hir.specs.Scratches.{Tables}
 use Rattle.hir.specs.Sound.{Sound}
 use Rattle.walk.proofs.Acting.{Splits}
@@ -23,6 +24,6 @@ module _ {A : Type 0} (does : Tables → A → Tables) (Fits : Model → A → T
     back = λ t a more r. ready_grows t (does t a) more (record { sound = r.sound; fits = r.fits.1 }) (grows_does t a r.sound r.fits.0);
   }
 
-  pub grows_over : (t : Tables) (todo : List A) → Ready Fits t todo → Grows t (over does t todo)
+  pub grows_over : (t : Tables) (todo : List A) → Ready Fits t todo → Grows t (fold does t todo)
   grows_over t [] r = grows_none t
   grows_over t (a ∷ todo) r = grows_trans (grows_does t a r.sound r.fits.0) (grows_over (does t a) todo (splits.back t a todo r))

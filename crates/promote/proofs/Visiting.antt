@@ -8,7 +8,8 @@ use Rattle.hir.specs.declared.ids.ScopeId.{ScopeId}
 use Rattle.hir.specs.declared.tables.Reason.{Reason}
 use Rattle.hir.specs.declared.tables.Reason.TheVariants as reasons
 use Rattle.hir.specs.Environments.{Model, scope_of, function_of}
-use Rattle.hir.specs.Lists.{Each, over}
+use Rattle.hir.specs.Lists.{Each}
+use Rattle.std.specs.List.{fold}
 use Rattle.hir.specs.Scratches.{Tables}
 use Rattle.hir.specs.Sound.{Sound, Known, KnownFunction}
 use Rattle.hir.specs.Spans.{identifiers_in, functions_in, function, part}
@@ -41,7 +42,7 @@ take_set (suc n) (y ∷ ys) zero x = refl
 take_set (suc n) (y ∷ ys) (suc i) x = ap (λ zs. y ∷ zs) (take_set n ys i x)
 
 -- naming leaves the marks
-same_marks : (why : Reason) (t : Tables) (is : List IdentifierId) → (over (promote_unnamed why) t is).notes.marks ≡ t.notes.marks
+same_marks : (why : Reason) (t : Tables) (is : List IdentifierId) → (fold (promote_unnamed why) t is).notes.marks ≡ t.notes.marks
 same_marks why t [] = refl
 same_marks why t (i ∷ is) =
     same_marks why (promote_unnamed why t i) is
@@ -63,7 +64,7 @@ functions_kept {m} {t} k fs h =
     let P : ℕ → Type 0 = λ n. Each (λ (g : FunctionId). g.0 < n) fs in
     subst P (sym (ap length k.functions)) h
 
-visited_each : (f : Tables → FunctionId → Tables) → ((t : Tables) (g : FunctionId) → Sound t → KnownFunction t.env g → Visited t (f t g)) → (t : Tables) (gs : List FunctionId) → Sound t → Each (KnownFunction t.env) gs → Visited t (over f t gs)
+visited_each : (f : Tables → FunctionId → Tables) → ((t : Tables) (g : FunctionId) → Sound t → KnownFunction t.env g → Visited t (f t g)) → (t : Tables) (gs : List FunctionId) → Sound t → Each (KnownFunction t.env) gs → Visited t (fold f t gs)
 visited_each f one t [] s h = visited_none t
 visited_each f one t (g ∷ gs) s h =
     let v = one t g s h.0 in
@@ -99,7 +100,7 @@ module _ (t : Tables) (f : FunctionId) (s : Sound t) (h : KnownFunction t.env f)
 pub visited : (k : ℕ) (t : Tables) (f : FunctionId) → Sound t → KnownFunction t.env f → Visited t (visit k t f)
 visited zero t f s h = visited_none t
 visited (suc k) t f s h =
-    cond_both (is_marked t f) t (over (visit k) (entered t f) (nested_in t f)) (Visited t) (λ e. visited_none t)
+    cond_both (is_marked t f) t (fold (visit k) (entered t f) (nested_in t f)) (Visited t) (λ e. visited_none t)
     (λ e. visited_trans (visited_entered t f s h e) (visited_each (visit k) (visited k) (entered t f) (nested_in t f) (sound_grows s (grows_entered t f s h)) (nested_known t f s h)))
 
 pub grows_does : (t : Tables) (a : Act) → Sound t → Fits t.env a → Grows t (does t a)
@@ -124,12 +125,12 @@ ready_grows = passing.ready_grows does Fits fits_kept grows_does
 pub splits : Splits does Ready
 splits = passing.splits does Fits fits_kept grows_does
 
-pub grows_over : (t : Tables) (todo : List Act) → Ready t todo → Grows t (over does t todo)
+pub grows_over : (t : Tables) (todo : List Act) → Ready t todo → Grows t (fold does t todo)
 grows_over = passing.grows_over does Fits fits_kept grows_does
 
 -- i of the nested functions were visited, whatever bound on the depth is taken
 pub record Visiting (start at : Tables) (ns : List ℕ) (i : ℕ) : Type 0 where
-  pub same : (k : ℕ) → unvisited start ≤ k → over (visit k) start (map function ns) ≡ over (visit k) at (map function (drop i ns))
+  pub same : (k : ℕ) → unvisited start ≤ k → fold (visit k) start (map function ns) ≡ fold (visit k) at (map function (drop i ns))
   pub visited_so : Visited start at
   pub sound : Sound at
   pub known : Each (KnownFunction at.env) (map function (drop i ns))
@@ -153,7 +154,7 @@ module _ (start at : Tables) (ns : List ℕ) (i : ℕ) (inv : Visiting start at 
       record {
         same = λ k l.
             let e = is k (omega (arith, inv.visited_so.fewer)) in
-            inv.same k l ∙ ap (over (visit k) at) here ∙ ap (λ t. over (visit k) t (map function (drop (i + 1) ns))) (sym e);
+            inv.same k l ∙ ap (fold (visit k) at) here ∙ ap (λ t. fold (visit k) t (map function (drop (i + 1) ns))) (sym e);
         visited_so = visited_trans inv.visited_so v;
         sound = sound_grows inv.sound v.grows;
         known = functions_kept (kept v.grows.named) _ knows.1;
@@ -170,10 +171,10 @@ visiting_all b start at f ns i s h e is list inv past zero l = absurd (omega (ar
 visiting_all b start at f ns i s h e is list inv past (suc k) l =
     let low : unvisited start ≤ k = omega (arith, entered_less b f s h e, ap unvisited is) in
     sym (cond-false (is_marked b f) b _ e
-    ∙ ap (over (visit k) (entered b f)) (sym list)
-    ∙ ap (λ t. over (visit k) t (map function ns)) (sym is)
+    ∙ ap (fold (visit k) (entered b f)) (sym list)
+    ∙ ap (λ t. fold (visit k) t (map function ns)) (sym is)
     ∙ inv.same k low
-    ∙ ap (λ xs. over (visit k) at (map function xs)) (drop_all i ns past))
+    ∙ ap (λ xs. fold (visit k) at (map function xs)) (drop_all i ns past))
 
 -- the nested functions of a function, read after it was entered
 module _ (b start : Tables) (f : FunctionId) (ns : List ℕ) (s : Sound b) (h : KnownFunction b.env f) (is : start ≡ entered b f) (list : ns ≡ part start.env.pool (function_of b.env f.0).nested) where

@@ -6,7 +6,7 @@ use Rattle.hir.specs.declared.ids.ScopeId.{ScopeId}
 use Rattle.hir.specs.declared.span.Span.{Span}
 use Rattle.hir.specs.declared.tables.Reason.TheVariants as reasons
 use Rattle.hir.specs.Environments.{Model, declaration_of, scope_of, function_of}
-use Rattle.hir.specs.Lists.{over}
+use Rattle.std.specs.List.{fold}
 use Rattle.hir.specs.Scratches.{Tables, both, work_of}
 use Rattle.hir.specs.Sound.{KnownFunction}
 use Rattle.hir.specs.Spans.{identifiers_in, functions_in}
@@ -38,7 +38,7 @@ with_mark t f = both t.env (record { work = t.notes.work; marks = slice_set t.no
 
 -- a function is marked, and its parameters are named
 abbrev pub entered : Tables → FunctionId → Tables
-entered t f = over (promote_unnamed reasons.InnerParameter) (with_mark t f) (identifiers_in t.env.pool (function_of t.env f.0).parameters)
+entered t f = fold (promote_unnamed reasons.InnerParameter) (with_mark t f) (identifiers_in t.env.pool (function_of t.env f.0).parameters)
 
 abbrev pub nested_in : Tables → FunctionId → List FunctionId
 nested_in t f = functions_in t.env.pool (function_of t.env f.0).nested
@@ -46,7 +46,7 @@ nested_in t f = functions_in t.env.pool (function_of t.env f.0).nested
 -- a function and those nested in it, at most k deep, are visited, depth first, each once
 abbrev pub visit : ℕ → Tables → FunctionId → Tables
 visit zero t f = t
-visit (suc k) t f = cond (is_marked t f) t (over (visit k) (entered t f) (nested_in t f))
+visit (suc k) t f = cond (is_marked t f) t (fold (visit k) (entered t f) (nested_in t f))
 
 abbrev pub unmarked : List Bool → ℕ
 unmarked [] = 0
@@ -58,10 +58,10 @@ unvisited t = unmarked (take (length t.env.functions) t.notes.marks)
 
 abbrev pub does : Tables → Act → Tables
 does t (scope s) =
-    over (promote_unnamed reasons.Scope)
-    (over (promote_unnamed reasons.Scope) t (identifiers_in t.env.pool (scope_of t.env s.0).dependencies))
+    fold (promote_unnamed reasons.Scope)
+    (fold (promote_unnamed reasons.Scope) t (identifiers_in t.env.pool (scope_of t.env s.0).dependencies))
     (identifiers_in t.env.pool (scope_of t.env s.0).declarations)
-does t (pruned s) = over promote_escaped t (identifiers_in t.env.pool (scope_of t.env s.0).declarations)
+does t (pruned s) = fold promote_escaped t (identifiers_in t.env.pool (scope_of t.env s.0).declarations)
 does t (inner f) = visit (length t.env.functions) t f
 
 -- the act of a row, by its code and number
@@ -92,4 +92,4 @@ Readies w e = Ready w.tables (acts e)
 
 -- own parameters are named, and then what the rows take
 abbrev pub promote_temporaries : Tables → Span → List Row → Tables
-promote_temporaries t ps rs = over does (over (promote_unnamed reasons.OwnParameter) t (identifiers_in t.env.pool ps)) (pass_acts rs)
+promote_temporaries t ps rs = fold does (fold (promote_unnamed reasons.OwnParameter) t (identifiers_in t.env.pool ps)) (pass_acts rs)

@@ -1,6 +1,6 @@
 ghost use Rattle.std.specs.Prelude.{◌≡◌, ◌&&◌};
 ghost use Rattle.hir.specs.Environments.{model, tag_of};
-ghost use Rattle.hir.specs.Lists.{over};
+ghost use Rattle.std.specs.List.{fold};
 ghost use Rattle.hir.specs.Scratches.{tables};
 ghost use Rattle.hir.specs.Sound.{Sound, Known, KnownIn};
 ghost use Rattle.hir.specs.Spans.{identifiers_in};
@@ -77,7 +77,7 @@ pub fn promote_if(
 pub fn promote_list(env: &mut Environment, scratch: &mut Scratch, list: Span, reason: Reason)
     requires known { KnownIn (model env.old) list }
     requires sound { Sound (tables env.old scratch.old) }
-    ensures { tables env.new scratch.new ≡ over (promote_unnamed reason) (tables env.old scratch.old) (identifiers_in env.old.pool.now list) }
+    ensures { tables env.new scratch.new ≡ fold (promote_unnamed reason) (tables env.old scratch.old) (identifiers_in env.old.pool.now list) }
 {
     for n in list.of(env.pool) {
         promote_unnamed(env, scratch, IdentifierId(*n), reason);

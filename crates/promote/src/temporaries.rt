@@ -1,6 +1,7 @@
 ghost use Rattle.std.specs.Prelude.{◌≡◌, ℕ, ◌<◌, ◌≤◌, length};
 ghost use Rattle.hir.specs.Environments.{model};
-ghost use Rattle.hir.specs.Lists.{over, Each};
+ghost use Rattle.hir.specs.Lists.{Each};
+ghost use Rattle.std.specs.List.{fold};
 ghost use Rattle.hir.specs.Scratches.{tables};
 ghost use Rattle.hir.specs.Sound.{Sound, Known, KnownIn, KnownFunction};
 ghost use Rattle.hir.specs.Spans.{identifiers_in};

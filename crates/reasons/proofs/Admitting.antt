@@ -4,8 +4,7 @@ use Rattle.std.proofs.lemmas.List.Folds.{list_any-append}
 use Rattle.std.proofs.lemmas.Bool.{cases_Bool, cond-true, cond-false, eqb-true}
 use Rattle.hir.specs.declared.tables.JournalRow.{JournalRow}
 use Rattle.hir.specs.Environments.{Model}
-use Rattle.hir.specs.Lists.{over}
-use Rattle.std.specs.List.{list_any}
+use Rattle.std.specs.List.{fold, list_any}
 use Rattle.reasons.specs.Journals.{names, is_named, firsts, declares}
 use Rattle.reasons.proofs.Bools.{or_false, or_assoc, or_swap}
 
@@ -28,22 +27,22 @@ names_push i js r = list_any-append (λ x. eqb i x.identifier.0) js (r ∷ []) �
 pub taken_push : (m : Model) (js : List JournalRow) (r : JournalRow) (i : ℕ) → taken m (js ++ r ∷ []) i ≡ (eqb i r.identifier.0 || taken m js i)
 taken_push m js r i = ap (λ b. b || is_named m i) (names_push i js r) ∙ or_swap (names i js) (eqb i r.identifier.0) (is_named m i)
 
-pub firsts_admit : (m : Model) (js rows : List JournalRow) → js ++ firsts (taken m js) rows ≡ over (admit m) js rows
+pub firsts_admit : (m : Model) (js rows : List JournalRow) → js ++ firsts (taken m js) rows ≡ fold (admit m) js rows
 firsts_admit m js [] = append-nil js
 firsts_admit m js (r ∷ rows) =
     ⊎_elim
     (λ e.
-    ap (λ xs. js ++ xs) (cond-true _ _ _ e) ∙ firsts_admit m js rows ∙ ap (λ x. over (admit m) x rows) (sym (cond-true _ _ _ e)))
+    ap (λ xs. js ++ xs) (cond-true _ _ _ e) ∙ firsts_admit m js rows ∙ ap (λ x. fold (admit m) x rows) (sym (cond-true _ _ _ e)))
     (λ e.
     ap (λ xs. js ++ xs) (cond-false _ _ _ e)
     ∙ sym (append_assoc js (r ∷ []) (firsts (λ i. eqb i r.identifier.0 || taken m js i) rows))
     ∙ ap (λ xs. (js ++ r ∷ []) ++ xs) (firsts_same _ _ rows (λ i. sym (taken_push m js r i)))
     ∙ firsts_admit m (js ++ r ∷ []) rows
-    ∙ ap (λ x. over (admit m) x rows) (sym (cond-false _ _ _ e)))
+    ∙ ap (λ x. fold (admit m) x rows) (sym (cond-false _ _ _ e)))
     (cases_Bool (taken m js r.identifier.0))
 
 -- what a run journals, one covering after another
-pub firsts_all : (m : Model) (rows : List JournalRow) → firsts (is_named m) rows ≡ over (admit m) [] rows
+pub firsts_all : (m : Model) (rows : List JournalRow) → firsts (is_named m) rows ≡ fold (admit m) [] rows
 firsts_all m rows = firsts_admit m [] rows
 
 absorbed : (i x : ℕ) (p : ℕ → Bool) → p x ≡ true → p i ≡ (eqb i x || p i)
@@ -61,7 +60,7 @@ admit_taken m js r i =
     (cases_Bool (taken m js r.identifier.0))
 
 -- who has a name once some coverings were admitted: those covered, and those that had one
-pub taken_over : (m : Model) (js rows : List JournalRow) (i : ℕ) → taken m (over (admit m) js rows) i ≡ (names i rows || taken m js i)
+pub taken_over : (m : Model) (js rows : List JournalRow) (i : ℕ) → taken m (fold (admit m) js rows) i ≡ (names i rows || taken m js i)
 taken_over m js [] i = refl
 taken_over m js (r ∷ rows) i =
     taken_over m (admit m js r) rows i

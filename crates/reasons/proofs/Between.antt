@@ -1,17 +1,17 @@
 -- The third pass names what reason 5 covers. Assumes nothing.
 use Rattle.std.proofs.Common.{◌≡◌, ℕ, ◌+◌, ◌<◌, ◌≤◌, Bool, true, false, cond, not, ◌&&◌, ◌||◌, eqb, List, [], ◌∷◌, ◌++◌, length, Some, None, Option, IfSome, is_some, sym, refl, ap, ◌∙◌, subst, ⊎_elim, append_assoc, arith, length-set, get_or-set_other, get_or-set_same}
-use Rattle.std.specs.List.{filter}
+use Rattle.std.proofs.lemmas.List.Sums.{fold-append}
+use Rattle.std.specs.List.{filter, fold}
 use Rattle.std.proofs.lemmas.Bool.{cases_Bool, cases_eq, cond-true, cond-false, eq-eqb, ne_eqb, lt-ltb, le-ltb}
 use Rattle.hir.specs.declared.ids.IdentifierId.{IdentifierId}
 use Rattle.hir.specs.declared.scratch.Work.{Work}
 use Rattle.hir.specs.declared.tables.JournalRow.{JournalRow}
 use Rattle.hir.specs.declared.tables.Reason.TheVariants as reasons
 use Rattle.hir.specs.Environments.{Model, declaration_of}
-use Rattle.hir.specs.Lists.{Each, over}
+use Rattle.hir.specs.Lists.{Each}
 use Rattle.hir.specs.Scratches.{Tables, no_work, work_of}
 use Rattle.hir.specs.Sound.{Known}
 use Rattle.walk.specs.Events.{whole}
-use Rattle.walk.proofs.Rows.{over_append}
 use Rattle.promote.specs.Growth.{none}
 use Rattle.promote.specs.Identifier.{as_promoted, promote_if, is_unnamed, row}
 use Rattle.promote.proofs.Growing.{sound_grows}
@@ -58,7 +58,7 @@ module _ (m : Model) (up out : ℕ → Bool) (js : List JournalRow) where
     pub named : (i : ℕ) → s.named i ≡ taken m (js ++ covers reasons.Interposed s.found) i
     pub rows : (i : ℕ) → i < length m.identifiers → Agrees (table.epoch w) (work_of w.tables.notes i) s i
     -- each that was found was admitted to the journal
-    pub admitted : over (admit m) js (covers reasons.Interposed s.found) ≡ js ++ covers reasons.Interposed s.found
+    pub admitted : fold (admit m) js (covers reasons.Interposed s.found) ≡ js ++ covers reasons.Interposed s.found
 
   nameless_is : (s : known.Known) (w : table.State) → Knows s w → (i : IdentifierId) → table.nameless w i ≡ not (s.named i.0)
   nameless_is s w k i = view_unnamed m up out _ _ w.tables k.seen.view i ∙ ap not (sym (k.named i.0))
@@ -80,7 +80,7 @@ module _ (m : Model) (up out : ℕ → Bool) (js : List JournalRow) where
         let v = k.seen.view in
         let P : List IdentifierId → Type 0 = λ f. Seen m up out (declares m) (js ++ covers reasons.Interposed f) (table.noting w l x).tables in
         let Q : List IdentifierId → Type 0 = λ f. (i : ℕ) → s'.named i ≡ taken m (js ++ covers reasons.Interposed f) i in
-        let A : List IdentifierId → Type 0 = λ f. over (admit m) js (covers reasons.Interposed f) ≡ js ++ covers reasons.Interposed f in
+        let A : List IdentifierId → Type 0 = λ f. fold (admit m) js (covers reasons.Interposed f) ≡ js ++ covers reasons.Interposed f in
         record {
           seen = subst P (sym found_same) (record {
             view = record {
@@ -287,7 +287,7 @@ module _ (m : Model) (up out : ℕ → Bool) (js : List JournalRow) where
     unfolding used
     does_used = ap (λ b. whole w.visitor (promote_if b reasons.Interposed w.tables x)) found_is
 
-    seen_used : Seen m up out (declares m) (over (admit m) (with_found s) (covers reasons.Interposed (filter (λ i. due) (x ∷ [])))) used
+    seen_used : Seen m up out (declares m) (fold (admit m) (with_found s) (covers reasons.Interposed (filter (λ i. due) (x ∷ [])))) used
     unfolding used
     seen_used =
         seen_list m up out (declares m) reasons.Interposed (λ t i. promote_if (is_unnamed t.env i && due) reasons.Interposed t i) (λ t i. due) (λ i. due) (goes_declares m (λ i. due)) (λ t i. refl) (λ xs t i v q b. refl)
@@ -298,7 +298,7 @@ module _ (m : Model) (up out : ℕ → Bool) (js : List JournalRow) where
     row_same g keeps d = promoted_field g keeps (is_unnamed w.tables.env x && due) w.tables x d
 
     -- what is known goes on with the journal
-    knows_used : (s' : known.Known) → Seen m up out (declares m) (js ++ covers reasons.Interposed s'.found) used → ((i : ℕ) → s'.named i ≡ taken m (js ++ covers reasons.Interposed s'.found) i) → ((i : ℕ) → Agrees (table.epoch w) (work_of w.tables.notes i) s i → Agrees (table.epoch w) (work_of w.tables.notes i) s' i) → over (admit m) js (covers reasons.Interposed s'.found) ≡ js ++ covers reasons.Interposed s'.found → Knows s' (table.does w (table.uses x))
+    knows_used : (s' : known.Known) → Seen m up out (declares m) (js ++ covers reasons.Interposed s'.found) used → ((i : ℕ) → s'.named i ≡ taken m (js ++ covers reasons.Interposed s'.found) i) → ((i : ℕ) → Agrees (table.epoch w) (work_of w.tables.notes i) s i → Agrees (table.epoch w) (work_of w.tables.notes i) s' i) → fold (admit m) js (covers reasons.Interposed s'.found) ≡ js ++ covers reasons.Interposed s'.found → Knows s' (table.does w (table.uses x))
     knows_used s' seen named same in_all =
         subst (Knows s') (sym does_used)
         (record {
@@ -316,7 +316,7 @@ module _ (m : Model) (up out : ℕ → Bool) (js : List JournalRow) where
               };
         })
 
-    knows_unfound : known.act s (table.uses x) ≡ s → over (admit m) (with_found s) (covers reasons.Interposed (filter (λ i. due) (x ∷ []))) ≡ with_found s → Knows (known.act s (table.uses x)) (table.does w (table.uses x))
+    knows_unfound : known.act s (table.uses x) ≡ s → fold (admit m) (with_found s) (covers reasons.Interposed (filter (λ i. due) (x ∷ []))) ≡ with_found s → Knows (known.act s (table.uses x)) (table.does w (table.uses x))
     knows_unfound e f =
         let P : known.Known → Type 0 = λ a. Knows a (table.does w (table.uses x)) in
         let Q : List JournalRow → Type 0 = λ rows. Seen m up out (declares m) rows used in
@@ -331,20 +331,20 @@ module _ (m : Model) (up out : ℕ → Bool) (js : List JournalRow) where
         (λ n.
         knows_unfound
         (cond-false _ _ _ (ap (λ b. not b && due) n))
-        (ap (λ xs. over (admit m) (with_found s) (covers reasons.Interposed xs)) (cond-true due (x ∷ []) [] d) ∙ cond-true _ _ _ (sym (k.named x.0) ∙ n)))
+        (ap (λ xs. fold (admit m) (with_found s) (covers reasons.Interposed xs)) (cond-true due (x ∷ []) [] d) ∙ cond-true _ _ _ (sym (k.named x.0) ∙ n)))
         (λ n.
         let P : known.Known → Type 0 = λ a. Knows a (table.does w (table.uses x)) in
         let Q : List JournalRow → Type 0 = λ rows. Seen m up out (declares m) rows used in
         let longer : js ++ covers reasons.Interposed (s.found ++ x ∷ []) ≡ with_found s ++ row x reasons.Interposed ∷ [] =
         ap (λ xs. js ++ xs) (covers_append reasons.Interposed s.found (x ∷ [])) ∙ sym (append_assoc js (covers reasons.Interposed s.found) (row x reasons.Interposed ∷ [])) in
-        let grown : over (admit m) (with_found s) (covers reasons.Interposed (filter (λ i. due) (x ∷ []))) ≡ with_found s ++ row x reasons.Interposed ∷ [] =
-        ap (λ xs. over (admit m) (with_found s) (covers reasons.Interposed xs)) (cond-true due (x ∷ []) [] d) ∙ cond-false _ _ _ (sym (k.named x.0) ∙ n) in
+        let grown : fold (admit m) (with_found s) (covers reasons.Interposed (filter (λ i. due) (x ∷ []))) ≡ with_found s ++ row x reasons.Interposed ∷ [] =
+        ap (λ xs. fold (admit m) (with_found s) (covers reasons.Interposed xs)) (cond-true due (x ∷ []) [] d) ∙ cond-false _ _ _ (sym (k.named x.0) ∙ n) in
         subst P (sym (cond-true _ _ _ (λ i. not (n i) && d i)))
         (knows_used (known.finds x s) (subst Q (grown ∙ sym longer) seen_used)
         (λ i. ap (λ b. eqb i x.0 || b) (k.named i) ∙ sym (taken_push m (with_found s) (row x reasons.Interposed) i) ∙ ap (λ rows. taken m rows i) (sym longer))
         (λ i a. record { constant = a.constant; global = a.global; tracked = a.tracked; exposed = a.exposed; low = a.low })
-        (ap (over (admit m) js) (covers_append reasons.Interposed s.found (x ∷ []))
-        ∙ over_append (admit m) js (covers reasons.Interposed s.found) (row x reasons.Interposed ∷ [])
+        (ap (fold (admit m) js) (covers_append reasons.Interposed s.found (x ∷ []))
+        ∙ fold-append (admit m) js (covers reasons.Interposed s.found) (row x reasons.Interposed ∷ [])
         ∙ ap (λ rows. admit m rows (row x reasons.Interposed)) k.admitted
         ∙ cond-false _ _ _ (sym (k.named x.0) ∙ n)
         ∙ sym longer)))
@@ -352,7 +352,7 @@ module _ (m : Model) (up out : ℕ → Bool) (js : List JournalRow) where
         (λ d.
         knows_unfound
         (cond-false _ _ _ (ap (λ b. not (s.named x.0) && b) d ∙ and_false (not (s.named x.0))))
-        (ap (λ xs. over (admit m) (with_found s) (covers reasons.Interposed xs)) (cond-false due (x ∷ []) [] d)))
+        (ap (λ xs. fold (admit m) (with_found s) (covers reasons.Interposed xs)) (cond-false due (x ∷ []) [] d)))
         (cases_Bool due)
 
   pub knows_act : (s : known.Known) (w : table.State) (a : table.Act) → Knows s w → table.Fits m a → Knows (known.act s a) (table.does w a)
@@ -364,6 +364,6 @@ module _ (m : Model) (up out : ℕ → Bool) (js : List JournalRow) where
   knows_act s w (table.barrier l) k h = knows_barrier s w l k h
   knows_act s w (table.tracks l) k h = knows_tracks s w l k h
 
-  pub knows_all : (acts : List table.Act) → Each (table.Fits m) acts → (s : known.Known) (w : table.State) → Knows s w → Knows (over known.act s acts) (over table.does w acts)
+  pub knows_all : (acts : List table.Act) → Each (table.Fits m) acts → (s : known.Known) (w : table.State) → Knows s w → Knows (fold known.act s acts) (fold table.does w acts)
   knows_all [] h s w k = k
   knows_all (a ∷ acts) h s w k = knows_all acts h.1 (known.act s a) (table.does w a) (knows_act s w a k h.0)

@@ -5,8 +5,7 @@ use Rattle.std.proofs.lemmas.Bool.{cases_Bool, cases_eq, cases_lt, cases_order, 
 use Rattle.hir.specs.declared.ids.IdentifierId.{IdentifierId}
 use Rattle.hir.specs.declared.ids.ScopeId.{ScopeId}
 use Rattle.hir.specs.Environments.{Model, declaration_of, scope_of}
-use Rattle.hir.specs.Lists.{over}
-use Rattle.std.specs.List.{list_any}
+use Rattle.std.specs.List.{fold, list_any}
 use Rattle.hir.specs.Spans.{identifiers_in}
 use Rattle.collect.specs.Promotable as collect
 use Rattle.reasons.specs.Escapes.{Seen, never, since, Known, nothing, among, outside, used, recorded, act, has_escaped}
@@ -14,17 +13,17 @@ use Rattle.reasons.specs.Sentences.{records, uses_one, active_by, active_at, Rec
 use Rattle.reasons.proofs.Bools.{true_false, was_not}
 
 -- one act more
-pub take_next : {W A : Type 0} (f : W → A → W) (w : W) (acts : List A) (k : ℕ) (d : A) → k < length acts → over f w (take (suc k) acts) ≡ f (over f w (take k acts)) (get_or acts k d)
+pub take_next : {W A : Type 0} (f : W → A → W) (w : W) (acts : List A) (k : ℕ) (d : A) → k < length acts → fold f w (take (suc k) acts) ≡ f (fold f w (take k acts)) (get_or acts k d)
 take_next f w [] k d h = absurd (omega arith)
 take_next f w (a ∷ acts) zero d h = refl
 take_next f w (a ∷ acts) (suc k) d h = take_next f (f w a) acts k d (omega arith)
 
 -- one list of declarations is recorded
-all_active : (m : Model) (s : Known) (is : List IdentifierId) → (over (recorded m) s is).active ≡ s.active
+all_active : (m : Model) (s : Known) (is : List IdentifierId) → (fold (recorded m) s is).active ≡ s.active
 all_active m s [] = refl
 all_active m s (i ∷ is) = all_active m (recorded m s i) is
 
-all_recorded : (m : Model) (d : ℕ) (s : Known) (is : List IdentifierId) → (over (recorded m) s is).seen d ≡ cond (list_any (λ i. eqb (declaration_of m i.0) d) is) (since s.active false) (s.seen d)
+all_recorded : (m : Model) (d : ℕ) (s : Known) (is : List IdentifierId) → (fold (recorded m) s is).seen d ≡ cond (list_any (λ i. eqb (declaration_of m i.0) d) is) (since s.active false) (s.seen d)
 all_recorded m d s [] = refl
 all_recorded m d s (i ∷ is) =
     all_recorded m d (recorded m s i) is
@@ -59,9 +58,9 @@ module _ (m : Model) (d : ℕ) where
   active_step s (collect.sees i) = refl
   active_step s (collect.flags i) = refl
 
-  active_all : (s : Known) (acts : List collect.Act) → (over (act m) s acts).active ≡ over active_by s.active acts
+  active_all : (s : Known) (acts : List collect.Act) → (fold (act m) s acts).active ≡ fold active_by s.active acts
   active_all s [] = refl
-  active_all s (a ∷ acts) = active_all (act m s a) acts ∙ ap (λ ss. over active_by ss acts) (active_step s a)
+  active_all s (a ∷ acts) = active_all (act m s a) acts ∙ ap (λ ss. fold active_by ss acts) (active_step s a)
 
   module _ (acts : List collect.Act) where
     abbrev Rec : ℕ → Type 0
@@ -100,14 +99,14 @@ module _ (m : Model) (d : ℕ) where
     record_step : (k : ℕ) → Rec k → Story (suc k) (since (active_at_row k) false)
     record_step k r = quiet k (omega arith) r (λ i u w y. omega arith) (λ p u w y. absurd (omega arith))
 
-    story : (k : ℕ) → k ≤ length acts → Story k ((over (act m) nothing (take k acts)).seen d)
+    story : (k : ℕ) → k ≤ length acts → Story k ((fold (act m) nothing (take k acts)).seen d)
     story zero h = unheard (λ i l f. omega arith)
     story (suc k) h =
-        let s = over (act m) nothing (take k acts) in
+        let s = fold (act m) nothing (take k acts) in
         let a = get_or acts k collect.shuts in
         let now : s.active ≡ active_at_row k = active_all nothing (take k acts) in
         let was = story k (omega arith) in
-        let step : (over (act m) nothing (take (suc k) acts)).seen d ≡ cond (records m d a) (since (active_at_row k) false) (cond (uses_one m d a) (used (active_at_row k) (s.seen d)) (s.seen d)) =
+        let step : (fold (act m) nothing (take (suc k) acts)).seen d ≡ cond (records m d a) (since (active_at_row k) false) (cond (uses_one m d a) (used (active_at_row k) (s.seen d)) (s.seen d)) =
         ap (λ (x : Known). x.seen d) (take_next (act m) nothing acts k collect.shuts (omega arith)) ∙ seen_step s a
         ∙ ap (λ ss. cond (records m d a) (since ss false) (cond (uses_one m d a) (used ss (s.seen d)) (s.seen d))) now in
         subst (Story (suc k)) (sym step)
@@ -162,11 +161,11 @@ module _ (m : Model) (d : ℕ) where
         (λ more. ⊎_elim (λ less. h.last j less r) (λ less. last h.at less (omega (arith, h.after, within h)) h.recorded) more)
         (cases_order h.at j))
 
-    whole_story : Story (length acts) ((over (act m) nothing acts).seen d)
-    whole_story = subst (λ xs. Story (length acts) ((over (act m) nothing xs).seen d)) (take_all (length acts) acts (omega arith)) (story (length acts) (omega arith))
+    whole_story : Story (length acts) ((fold (act m) nothing acts).seen d)
+    whole_story = subst (λ xs. Story (length acts) ((fold (act m) nothing xs).seen d)) (take_all (length acts) acts (omega arith)) (story (length acts) (omega arith))
 
-    pub escapes_said : has_escaped ((over (act m) nothing acts).seen d) ≡ true → Escaped m acts d
+    pub escapes_said : has_escaped ((fold (act m) nothing acts).seen d) ≡ true → Escaped m acts d
     escapes_said e = said (length acts) _ refl whole_story e
 
-    pub escapes_heard : Escaped m acts d → has_escaped ((over (act m) nothing acts).seen d) ≡ true
+    pub escapes_heard : Escaped m acts d → has_escaped ((fold (act m) nothing acts).seen d) ≡ true
     escapes_heard h = heard (length acts) _ refl whole_story h

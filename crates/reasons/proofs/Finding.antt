@@ -4,8 +4,7 @@ use Rattle.std.proofs.lemmas.List.Folds.{list_any-append}
 use Rattle.std.proofs.lemmas.List.{get_or_past}
 use Rattle.std.proofs.lemmas.Bool.{cases_Bool, cases_eq, cases_lt, cases_order, cond-true, cond-false, cond_both, eqb-true, or_cases, and_parts}
 use Rattle.hir.specs.declared.ids.IdentifierId.{IdentifierId}
-use Rattle.hir.specs.Lists.{over}
-use Rattle.std.specs.List.{list_any}
+use Rattle.std.specs.List.{fold, list_any}
 use Rattle.hir.specs.Spans.{ident}
 use Rattle.interposed.specs.Acts as third
 use Rattle.reasons.specs.Interposed.{Known, finds, fixing, globally, tracking, raising, if, act, nothing, interposed}
@@ -206,7 +205,7 @@ module _ (named : ℕ → Bool) (acts : List third.Act) (x : ℕ) where
   within p f = ⊎_elim (λ l. l) (λ l. true_false _ f.used (ap (uses_it x) (get_or_past acts p (third.fixes (ident 0)) l))) (cases_lt p (length acts))
 
   all_taken : (at (length acts)).found ≡ interposed named acts
-  all_taken = ap (λ xs. (over act (nothing named) xs).found) (take_all (length acts) acts (omega arith))
+  all_taken = ap (λ xs. (fold act (nothing named) xs).found) (take_all (length acts) acts (omega arith))
 
   pub found_said : list_any (λ (i : IdentifierId). eqb x i.0) (interposed named acts) ≡ true → Found named acts x
   unfolding among

@@ -8,8 +8,8 @@ use Rattle.hir.specs.declared.tables.JournalRow.{JournalRow}
 use Rattle.hir.specs.declared.tables.Reason.{Reason}
 use Rattle.hir.specs.declared.tables.Reason.TheVariants as reasons
 use Rattle.hir.specs.Environments.{Model, declaration_of, scope_of, function_of}
-use Rattle.hir.specs.Lists.{over, Each}
-use Rattle.std.specs.List.{filter, list_any}
+use Rattle.hir.specs.Lists.{Each}
+use Rattle.std.specs.List.{fold, filter, list_any}
 use Rattle.hir.specs.Spans.{identifiers_in, functions_in}
 use Rattle.reactive.specs.Rows.{Row}
 use Rattle.walk.proofs.Fitting.{each_append}
@@ -96,7 +96,7 @@ between_ne : reasons.Interposed ≡ reasons.SameDeclaration → ⊥
 between_ne e = let z : ◌≡◌ {A = ℕ} 0 1 = cc in omega arith
 
 module _ (m : Model) (out : ℕ → Bool) where
-  each_functions : (reach : Covered → FunctionId → Covered) → ((s : Covered) (f : FunctionId) → Each Other s.rows → Each Other (reach s f).rows) → (fs : List FunctionId) (s : Covered) → Each Other s.rows → Each Other (over reach s fs).rows
+  each_functions : (reach : Covered → FunctionId → Covered) → ((s : Covered) (f : FunctionId) → Each Other s.rows → Each Other (reach s f).rows) → (fs : List FunctionId) (s : Covered) → Each Other s.rows → Each Other (fold reach s fs).rows
   each_functions reach one [] s h = h
   each_functions reach one (f ∷ fs) s h = each_functions reach one fs (reach s f) (one s f h)
 
@@ -105,7 +105,7 @@ module _ (m : Model) (out : ℕ → Bool) where
   each_reaching (suc k) s f h =
       let on = entering m s f in
       let nested = functions_in m.pool (function_of m f.0).nested in
-      cond_both (s.visited f.0) s (over (reaching k m) on nested) (λ (x : Covered). Each Other x.rows)
+      cond_both (s.visited f.0) s (fold (reaching k m) on nested) (λ (x : Covered). Each Other x.rows)
       (λ e. h)
       (λ e. each_functions (reaching k m) (λ x g l. each_reaching k x g l) nested on (each_append Other s.rows _ h (each_covers reasons.InnerParameter inner_ne (identifiers_in m.pool (function_of m f.0).parameters))))
 
@@ -119,7 +119,7 @@ module _ (m : Model) (out : ℕ → Bool) where
       each_append Other s.rows _ h (each_covers reasons.Escape escape_ne (filter (λ i. out (declaration_of m i.0)) (identifiers_in m.pool (scope_of m x.0).declarations)))
   each_covering s (temporaries.inner f) h = each_reaching (length m.functions) s f h
 
-  each_acts : (acts : List temporaries.Act) (s : Covered) → Each Other s.rows → Each Other (over (covering m out) s acts).rows
+  each_acts : (acts : List temporaries.Act) (s : Covered) → Each Other s.rows → Each Other (fold (covering m out) s acts).rows
   each_acts [] s h = h
   each_acts (a ∷ acts) s h = each_acts acts (covering m out s a) (each_covering s a h)
 

@@ -6,8 +6,8 @@ use Rattle.hir.specs.declared.ids.ScopeId.{ScopeId}
 use Rattle.hir.specs.declared.scratch.Trail.{Trail}
 use Rattle.hir.specs.declared.scratch.Work.{Work}
 use Rattle.hir.specs.Environments.{Model, declaration_of, scope_of}
-use Rattle.hir.specs.Lists.{Each, over}
-use Rattle.std.specs.List.{list_any}
+use Rattle.hir.specs.Lists.{Each}
+use Rattle.std.specs.List.{fold, list_any}
 use Rattle.hir.specs.Scratches.{Notes, Tables, both, no_work, no_trail, work_of}
 use Rattle.hir.specs.Sound.{Known}
 use Rattle.hir.specs.Spans.{identifiers_in}
@@ -163,7 +163,7 @@ module _ (m : Model) (static : Static m) where
       (same_plain x (work_of w.tables.notes d) (ap (λ (y : Work). y.promoted) (work_is s up w k i)) (ap (λ (y : Work). y.constant) (work_is s up w k i)) (ap (λ (y : Work). y.global) (work_is s up w k i)) (ap (λ (y : Work). y.tracked) (work_is s up w k i)) (k.plain d (low i h)))
       (λ e ne. at_there d (λ y. known.since s.active false) s.seen e ne) (λ e ne. refl)
 
-  marks_records : (is : List IdentifierId) → Each (Known m) is → (s : known.Known) (up : ℕ → Bool) (v : CollectPromotable) (t : Tables) → Marks s up (whole v t) → Marks (over (known.recorded m) s is) up (whole v (over (table.recorded_at v.innermost) t is))
+  marks_records : (is : List IdentifierId) → Each (Known m) is → (s : known.Known) (up : ℕ → Bool) (v : CollectPromotable) (t : Tables) → Marks s up (whole v t) → Marks (fold (known.recorded m) s is) up (whole v (fold (table.recorded_at v.innermost) t is))
   marks_records [] h s up v t k = k
   marks_records (i ∷ is) h s up v t k = marks_records is h.1 (known.recorded m s i) up v (table.recorded_at v.innermost t i) (marks_recorded s up (whole v t) i k h.0)
 
@@ -276,7 +276,7 @@ module _ (m : Model) (static : Static m) where
 
   marks_prunes : (s : known.Known) (up : ℕ → Bool) (w : Whole CollectPromotable) (x : ScopeId) → Marks s up w → x.0 < length m.scopes → Marks (known.act m s (table.prunes x)) up (table.does w (table.prunes x))
   marks_prunes s up w x k h =
-      let P : List IdentifierId → Type 0 = λ is. Marks (known.act m s (table.prunes x)) up (whole w.visitor (over (table.recorded_at w.visitor.innermost) w.tables is)) in
+      let P : List IdentifierId → Type 0 = λ is. Marks (known.act m s (table.prunes x)) up (whole w.visitor (fold (table.recorded_at w.visitor.innermost) w.tables is)) in
       subst P (sym (ap (λ (y : Model). table.declared_in y x) k.env))
       (marks_records (identifiers_in m.pool (scope_of m x.0).declarations) (static.scopes x.0 h).declarations s up w.visitor w.tables k)
 
@@ -296,7 +296,7 @@ module _ (m : Model) (static : Static m) where
   marks_act s up w (table.sees i) k r = marks_sees s up w i k (let h = r.fits.0 in omega (arith, h, ap (λ (y : Model). length y.identifiers) k.env))
   marks_act s up w (table.flags i) k r = marks_flags s up w i k (let h = r.fits.0 in omega (arith, h, ap (λ (y : Model). length y.identifiers) k.env))
 
-  pub marks_all : (acts : List table.Act) (s : known.Known) (up : ℕ → Bool) (w : Whole CollectPromotable) → Marks s up w → table.Ready w acts → Marks (over (known.act m) s acts) (over tags_after up acts) (over table.does w acts)
+  pub marks_all : (acts : List table.Act) (s : known.Known) (up : ℕ → Bool) (w : Whole CollectPromotable) → Marks s up w → table.Ready w acts → Marks (fold (known.act m) s acts) (fold tags_after up acts) (fold table.does w acts)
   marks_all [] s up w k r = k
   marks_all (a ∷ acts) s up w k r =
       marks_all acts (known.act m s a) (tags_after up a) (table.does w a)

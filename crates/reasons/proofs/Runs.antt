@@ -1,6 +1,7 @@
 -- The four passes leave what the coverings of a run say. Assumes nothing.
 use Rattle.std.proofs.Common.{◌≡◌, ℕ, ◌≤◌, Bool, false, Option, IfSome, is_some, None, List, [], ◌∷◌, ◌++◌, length, get_or, replicate, sym, refl, ap, ◌∙◌, subst, ⊎_elim, append_assoc, append-nil}
-use Rattle.std.specs.List.{filter}
+use Rattle.std.proofs.lemmas.List.Sums.{fold-append}
+use Rattle.std.specs.List.{filter, fold}
 use Rattle.std.proofs.lemmas.List.Elements.{filter-append}
 use lib.ListN.{length-replicate}
 use Rattle.std.proofs.lemmas.List.{get_or-replicate, get_or_past}
@@ -11,13 +12,12 @@ use Rattle.hir.specs.declared.span.Span.{Span}
 use Rattle.hir.specs.declared.tables.JournalRow.{JournalRow}
 use Rattle.hir.specs.declared.tables.Reason.TheVariants as reasons
 use Rattle.hir.specs.Environments.{Model, declaration_of}
-use Rattle.hir.specs.Lists.{Each, over}
+use Rattle.hir.specs.Lists.{Each}
 use Rattle.hir.specs.Scratches.{Notes, Tables, no_work, blank, work_of}
 use Rattle.hir.specs.Sound.{Sound, KnownIn}
 use Rattle.hir.specs.Spans.{identifiers_in}
 use Rattle.reactive.specs.Rows.{Row}
 use Rattle.walk.specs.Events.{Whole}
-use Rattle.walk.proofs.Rows.{over_append}
 use Rattle.promote.specs.Growth.{none}
 use Rattle.promote.specs.Identifier.{as_promoted, promote_unnamed}
 use Rattle.promote.specs.Temporaries as temporaries
@@ -58,7 +58,7 @@ blank_mark n f =
     (cases_lt f (length n.marks))
 
 -- the first pass leaves the marks of functions
-marks_recorded : (l : Option ℕ) (t : Tables) (is : List IdentifierId) → (over (collects.recorded_at l) t is).notes.marks ≡ t.notes.marks
+marks_recorded : (l : Option ℕ) (t : Tables) (is : List IdentifierId) → (fold (collects.recorded_at l) t is).notes.marks ≡ t.notes.marks
 marks_recorded l t [] = refl
 marks_recorded l t (i ∷ is) = marks_recorded l (collects.recorded_at l t i) is
 
@@ -69,7 +69,7 @@ marks_does w (collects.prunes s) = marks_recorded w.visitor.innermost w.tables (
 marks_does w (collects.sees i) = cond_both _ _ _ (λ (t : Tables). t.notes.marks ≡ w.tables.notes.marks) (λ e. refl) (λ e. refl)
 marks_does w (collects.flags i) = refl
 
-marks_over : (w : Whole CollectPromotable) (acts : List collects.Act) → (over collects.does w acts).tables.notes.marks ≡ w.tables.notes.marks
+marks_over : (w : Whole CollectPromotable) (acts : List collects.Act) → (fold collects.does w acts).tables.notes.marks ≡ w.tables.notes.marks
 marks_over w [] = refl
 marks_over w (a ∷ acts) = marks_over (collects.does w a) acts ∙ marks_does w a
 
@@ -103,7 +103,7 @@ module _ (t : Tables) (ps : Span) (rs : List Row) (sound : Sound t) (parameters 
   abbrev one : Tables
   one = collects.collected (reset t) rs
 
-  marked : Marks t.env static (over (escapes.act t.env) escapes.nothing (collects.pass_acts rs)) (over (tags_after t.env static) (λ d. false) (collects.pass_acts rs)) (over collects.does (collects.begun (reset t)) (collects.pass_acts rs))
+  marked : Marks t.env static (fold (escapes.act t.env) escapes.nothing (collects.pass_acts rs)) (fold (tags_after t.env static) (λ d. false) (collects.pass_acts rs)) (fold collects.does (collects.begun (reset t)) (collects.pass_acts rs))
   marked = marks_all t.env static (collects.pass_acts rs) escapes.nothing (λ d. false) (collects.begun (reset t)) blank_begun ready
 
   seen_one : Seen t.env up out (declares t.env) [] one
@@ -123,13 +123,13 @@ module _ (t : Tables) (ps : Span) (rs : List Row) (sound : Sound t) (parameters 
   two = temporaries.promote_temporaries one ps rs
 
   abbrev two_by : List IdentifierId → Tables
-  two_by is = over temporaries.does (over (promote_unnamed reasons.OwnParameter) one is) (temporaries.pass_acts rs)
+  two_by is = fold temporaries.does (fold (promote_unnamed reasons.OwnParameter) one is) (temporaries.pass_acts rs)
 
   own_one : identifiers_in one.env.pool ps ≡ own
   own_one = ap (λ (x : Model). identifiers_in x.pool ps) marked.env
 
   abbrev firstly : List JournalRow
-  firstly = over (admit t.env) [] (early t.env ps rs)
+  firstly = fold (admit t.env) [] (early t.env ps rs)
 
   seen_two : Seen t.env up out (declares t.env) firstly two
   seen_two =
@@ -172,13 +172,13 @@ module _ (t : Tables) (ps : Span) (rs : List Row) (sound : Sound t) (parameters 
   abbrev fifth : List JournalRow
   fifth = between t.env ps rs
 
-  knows_end : Knows t.env up out firstly (over known.act (known.nothing (named_then t.env ps rs)) (interposed.pass_acts own rs)) (over interposes.does (interposed.begun two) (interposed.pass_acts own rs))
+  knows_end : Knows t.env up out firstly (fold known.act (known.nothing (named_then t.env ps rs)) (interposed.pass_acts own rs)) (fold interposes.does (interposed.begun two) (interposed.pass_acts own rs))
   knows_end = knows_all t.env up out firstly (interposed.pass_acts own rs) third _ _ knows_start
 
   before_is : firstly ++ fifth ≡ before t.env ps rs
   before_is =
       sym knows_end.admitted
-      ∙ sym (over_append (admit t.env) [] (early t.env ps rs) fifth)
+      ∙ sym (fold-append (admit t.env) [] (early t.env ps rs) fifth)
       ∙ sym (firsts_all t.env (early t.env ps rs ++ fifth))
 
   abbrev done : ℕ → Bool
@@ -186,7 +186,7 @@ module _ (t : Tables) (ps : Span) (rs : List Row) (sound : Sound t) (parameters 
 
   seen_three : Seen t.env up out (λ js. done) (before t.env ps rs) three
   seen_three =
-      let P : List IdentifierId → Type 0 = λ is. Seen t.env up out (declares t.env) (firstly ++ fifth) (over interposes.does (interposed.begun two) (interposed.pass_acts is rs)).tables in
+      let P : List IdentifierId → Type 0 = λ is. Seen t.env up out (declares t.env) (firstly ++ fifth) (fold interposes.does (interposed.begun two) (interposed.pass_acts is rs)).tables in
       let Q : List JournalRow → Type 0 = λ js. Seen t.env up out (declares t.env) js three in
       let s = subst Q before_is (subst P (sym own_two) knows_end.seen) in
       record { view = s.view; sound = s.sound }
@@ -198,24 +198,24 @@ module _ (t : Tables) (ps : Span) (rs : List Row) (sound : Sound t) (parameters 
   keep i = done (declaration_of t.env i.0)
 
   -- what the last pass admits is what reason 6 covers
-  last_is : over (admit t.env) (over (admit t.env) (before t.env ps rs) (covers reasons.SameDeclaration (filter (λ i. done (declaration_of t.env i.0)) own))) (covers reasons.SameDeclaration (filter (λ i. done (declaration_of t.env i.0)) (visits t.env (instances.pass_acts rs)))) ≡ journal t.env ps rs
+  last_is : fold (admit t.env) (fold (admit t.env) (before t.env ps rs) (covers reasons.SameDeclaration (filter (λ i. done (declaration_of t.env i.0)) own))) (covers reasons.SameDeclaration (filter (λ i. done (declaration_of t.env i.0)) (visits t.env (instances.pass_acts rs)))) ≡ journal t.env ps rs
   last_is =
       let js = before t.env ps rs in
       let a = filter (λ i. done (declaration_of t.env i.0)) own in
       let b = filter (λ i. done (declaration_of t.env i.0)) (visits t.env (instances.pass_acts rs)) in
-      sym (over_append (admit t.env) js (covers reasons.SameDeclaration a) (covers reasons.SameDeclaration b))
-      ∙ ap (over (admit t.env) js) (sym (covers_append reasons.SameDeclaration a b) ∙ ap (covers reasons.SameDeclaration) (sym (filter-append (λ i. done (declaration_of t.env i.0)) own (visits t.env (instances.pass_acts rs)))))
-      ∙ ap (λ x. over (admit t.env) x (late t.env ps rs)) (firsts_all t.env (early t.env ps rs ++ fifth))
-      ∙ sym (over_append (admit t.env) [] (early t.env ps rs ++ fifth) (late t.env ps rs))
-      ∙ ap (over (admit t.env) []) (append_assoc (early t.env ps rs) fifth (late t.env ps rs))
+      sym (fold-append (admit t.env) js (covers reasons.SameDeclaration a) (covers reasons.SameDeclaration b))
+      ∙ ap (fold (admit t.env) js) (sym (covers_append reasons.SameDeclaration a b) ∙ ap (covers reasons.SameDeclaration) (sym (filter-append (λ i. done (declaration_of t.env i.0)) own (visits t.env (instances.pass_acts rs)))))
+      ∙ ap (λ x. fold (admit t.env) x (late t.env ps rs)) (firsts_all t.env (early t.env ps rs ++ fifth))
+      ∙ sym (fold-append (admit t.env) [] (early t.env ps rs ++ fifth) (late t.env ps rs))
+      ∙ ap (fold (admit t.env) []) (append_assoc (early t.env ps rs) fifth (late t.env ps rs))
       ∙ sym (firsts_all t.env (early t.env ps rs ++ (fifth ++ late t.env ps rs)))
 
   seen_passed : Seen t.env up out (λ js. done) (journal t.env ps rs) (passed t ps rs)
   seen_passed =
       let a = seen_visited t.env up out done static (before t.env ps rs) three seen_three own parameters in
       let b = seen_acts t.env up out done static (instances.pass_acts rs) fourth _ _ a in
-      let P : List IdentifierId → Type 0 = λ is. Seen t.env up out (λ js. done) (journal t.env ps rs) (over instances.does (over instances.promote_instance three is) (instances.pass_acts rs)) in
-      let Q : List JournalRow → Type 0 = λ js. Seen t.env up out (λ xs. done) js (over instances.does (over instances.promote_instance three own) (instances.pass_acts rs)) in
+      let P : List IdentifierId → Type 0 = λ is. Seen t.env up out (λ js. done) (journal t.env ps rs) (fold instances.does (fold instances.promote_instance three is) (instances.pass_acts rs)) in
+      let Q : List JournalRow → Type 0 = λ js. Seen t.env up out (λ xs. done) js (fold instances.does (fold instances.promote_instance three own) (instances.pass_acts rs)) in
       subst P (sym own_three) (subst Q last_is b)
 
   -- a run leaves the environment that the coverings say

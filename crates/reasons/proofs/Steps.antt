@@ -1,13 +1,13 @@
 -- Naming the identifiers of a list under a condition, seen as admitting coverings. Assumes nothing.
 use Rattle.std.proofs.Common.{◌≡◌, ℕ, Bool, true, false, not, ◌&&◌, ◌||◌, List, [], ◌∷◌, ◌++◌, sym, refl, ap, ◌∙◌, subst, ⊎_elim, arith}
-use Rattle.std.specs.List.{filter}
+use Rattle.std.specs.List.{filter, fold}
 use Rattle.std.proofs.lemmas.List.Folds.{list_any-append}
 use Rattle.std.proofs.lemmas.Bool.{cases_Bool, cond-true, cond-false, eq-eqb, ne_eqb, and_parts}
 use Rattle.hir.specs.declared.ids.IdentifierId.{IdentifierId}
 use Rattle.hir.specs.declared.tables.JournalRow.{JournalRow}
 use Rattle.hir.specs.declared.tables.Reason.{Reason}
 use Rattle.hir.specs.Environments.{Model, declaration_of}
-use Rattle.hir.specs.Lists.{Each, over}
+use Rattle.hir.specs.Lists.{Each}
 use Rattle.hir.specs.Scratches.{Tables}
 use Rattle.hir.specs.Sound.{Sound, Known}
 use Rattle.promote.specs.Growth.{Grows}
@@ -62,15 +62,15 @@ module _ (m : Model) (up out : ℕ → Bool) (next : List JournalRow → ℕ →
         })))
         (cases_Bool (taken m js i.0))
 
-  pub seen_list : (js : List JournalRow) (t : Tables) → Seen m up out next js t → (xs : List IdentifierId) → Each (Known m) xs → Seen m up out next (over (admit m) js (covers why (filter keep xs))) (over f t xs)
+  pub seen_list : (js : List JournalRow) (t : Tables) → Seen m up out next js t → (xs : List IdentifierId) → Each (Known m) xs → Seen m up out next (fold (admit m) js (covers why (filter keep xs))) (fold f t xs)
   seen_list js t s [] h = s
   seen_list js t s (i ∷ xs) h =
       ⊎_elim
       (λ e.
-      let P : List IdentifierId → Type 0 = λ ys. Seen m up out next (over (admit m) js (covers why ys)) (over f (f t i) xs) in
+      let P : List IdentifierId → Type 0 = λ ys. Seen m up out next (fold (admit m) js (covers why ys)) (fold f (f t i) xs) in
       subst P (sym (cond-true _ _ _ e)) (seen_list (admit m js (row i why)) (f t i) (let_in js t s i h.0 e) xs h.1))
       (λ e.
-      let P : List IdentifierId → Type 0 = λ ys. Seen m up out next (over (admit m) js (covers why ys)) (over f (f t i) xs) in
+      let P : List IdentifierId → Type 0 = λ ys. Seen m up out next (fold (admit m) js (covers why ys)) (fold f (f t i) xs) in
       subst P (sym (cond-false _ _ _ e)) (seen_list js (f t i) (kept_out js t s i h.0 e) xs h.1))
       (cases_Bool (keep i))
 

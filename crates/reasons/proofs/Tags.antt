@@ -3,8 +3,7 @@ use Rattle.std.proofs.Common.{◌≡◌, ℕ, Bool, true, false, cond, ◌&&◌,
 use Rattle.std.proofs.lemmas.List.Folds.{list_any-append}
 use Rattle.std.proofs.lemmas.Bool.{cases_Bool, cond-true, cond-false, eqb-true, ne_eqb}
 use Rattle.hir.specs.Environments.{Model, declaration_of}
-use Rattle.hir.specs.Lists.{over}
-use Rattle.std.specs.List.{list_any}
+use Rattle.std.specs.List.{fold, list_any}
 use Rattle.reactive.specs.declared.code.Code.TheVariants as codes
 use Rattle.reactive.specs.declared.row.RowHead.{RowHead}
 use Rattle.reactive.specs.Codes.{used_in, listed}
@@ -42,7 +41,7 @@ module _ (m : Model) (static : Static m) (d : ℕ) where
   after_one up (table.sees i) = sym (or_false (up d))
   after_one up (table.flags i) = refl
 
-  after_all : (up : ℕ → Bool) (acts : List table.Act) → over (tags_after m static) up acts d ≡ (up d || list_any flagged acts)
+  after_all : (up : ℕ → Bool) (acts : List table.Act) → fold (tags_after m static) up acts d ≡ (up d || list_any flagged acts)
   after_all up [] = sym (or_false (up d))
   after_all up (a ∷ acts) =
       after_all (tags_after m static up a) acts
@@ -130,6 +129,6 @@ module _ (m : Model) (static : Static m) (d : ℕ) where
       ∙ (λ k. of_row r k || of_rows (head r ∷ on) rs k)
 
   -- a declaration is noted as that of a tag exactly when it has the letter T
-  pub tags_are : (rs : List Row) → over (tags_after m static) (λ n. false) (table.pass_acts rs) d ≡ upper m rs d
+  pub tags_are : (rs : List Row) → fold (tags_after m static) (λ n. false) (table.pass_acts rs) d ≡ upper m rs d
   unfolding tags
   tags_are rs = after_all (λ n. false) (table.pass_acts rs) ∙ of_rows [] rs

@@ -1,5 +1,6 @@
 -- The tables of a run as the journal rows so far and what is noted of declarations. Assumes nothing.
 use Rattle.std.proofs.Common.{◌≡◌, ℕ, zero, suc, ◌<◌, Bool, true, false, cond, not, ◌||◌, eqb, List, [], ◌∷◌, ◌++◌, length, get_or, set, sym, refl, ap, ◌∙◌, ⊎_elim, arith, length-set, get_or-set_other, get_or-set_same}
+use Rattle.std.proofs.lemmas.List.Sums.{fold-append}
 use Rattle.std.proofs.lemmas.Bool.{cases_eq, eq-eqb, ne_eqb, eqb-true}
 use Rattle.hir.specs.declared.ids.IdentifierId.{IdentifierId}
 use Rattle.hir.specs.declared.scratch.Work.{Work}
@@ -12,7 +13,6 @@ use Rattle.hir.specs.Scratches.{Tables, no_work, work_of}
 use Rattle.hir.specs.Sound.{Sound, Known}
 use Rattle.promote.specs.Identifier.{as_promoted, promoted, is_unnamed, letter_tag, row}
 use Rattle.promote.proofs.Growing.{Kept, kept, grows_promoted}
-use Rattle.walk.proofs.Rows.{over_append}
 use Rattle.reasons.specs.Journals.{names, is_named, name_one, name_all}
 use Rattle.reasons.proofs.Bools.{or_swap}
 use Rattle.reasons.proofs.Admitting.{taken}
@@ -105,7 +105,7 @@ module _ (m : Model) (up out done on : ℕ → Bool) (js : List JournalRow) (t :
         env =
             ap (λ n. journaled (tagged t.env i.0 n) (row i why)) letter_is
             ∙ ap (λ (x : Model). name_one up x (row i why)) v.env
-            ∙ sym (over_append (name_one up) m js (row i why ∷ []));
+            ∙ sym (fold-append (name_one up) m js (row i why ∷ []));
         known = each_last _ js (row i why) v.known h;
         grown = record {
           scopes = k.scopes ∙ v.grown.scopes;

@@ -7,8 +7,7 @@ use Rattle.hir.specs.declared.tables.JournalRow.{JournalRow}
 use Rattle.hir.specs.declared.tables.Reason.{Reason}
 use Rattle.hir.specs.declared.tables.Reason.TheVariants as reasons
 use Rattle.hir.specs.Environments.{Model, declaration_of, scope_of, function_of}
-use Rattle.hir.specs.Lists.{over}
-use Rattle.std.specs.List.{filter, list_any}
+use Rattle.std.specs.List.{fold, filter, list_any}
 use Rattle.hir.specs.Spans.{identifiers_in, functions_in}
 use Rattle.reactive.specs.declared.code.Code.TheVariants as codes
 use Rattle.reactive.specs.Rows.{Row, is}
@@ -41,7 +40,7 @@ entering m s f = record {
 -- a function and those nested in it, at most k deep, depth first, each once
 abbrev pub reaching : ℕ → Model → Covered → FunctionId → Covered
 reaching zero m s f = s
-reaching (suc k) m s f = cond (s.visited f.0) s (over (reaching k m) (entering m s f) (functions_in m.pool (function_of m f.0).nested))
+reaching (suc k) m s f = cond (s.visited f.0) s (fold (reaching k m) (entering m s f) (functions_in m.pool (function_of m f.0).nested))
 
 -- what a row covers: a scope's dependencies and declarations, a pruned scope's escaped declarations, inner parameters
 abbrev pub covering : Model → (ℕ → Bool) → Covered → temporaries.Act → Covered
@@ -56,7 +55,7 @@ covering m out s (temporaries.inner f) = reaching (length m.functions) m s f
 -- reasons 1 to 4
 abbrev pub early : Model → Span → List Row → List JournalRow
 early m ps rs =
-    (over (covering m (escaped m rs)) (record { visited = λ f. false; rows = covers reasons.OwnParameter (identifiers_in m.pool ps) }) (temporaries.pass_acts rs)).rows
+    (fold (covering m (escaped m rs)) (record { visited = λ f. false; rows = covers reasons.OwnParameter (identifiers_in m.pool ps) }) (temporaries.pass_acts rs)).rows
 
 -- who has a name after reasons 1 to 4
 abbrev pub named_then : Model → Span → List Row → ℕ → Bool

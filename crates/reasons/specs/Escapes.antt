@@ -3,8 +3,7 @@ use Rattle.std.specs.Prelude.{ℕ, Bool, false, cond, not, ◌||◌, List, [], �
 use Rattle.hir.specs.declared.ids.IdentifierId.{IdentifierId}
 use Rattle.hir.specs.declared.ids.ScopeId.{ScopeId}
 use Rattle.hir.specs.Environments.{Model, declaration_of, scope_of}
-use Rattle.hir.specs.Lists.{over}
-use Rattle.std.specs.List.{list_any}
+use Rattle.std.specs.List.{fold, list_any}
 use Rattle.hir.specs.Spans.{identifiers_in}
 use Rattle.reactive.specs.Rows.{Row}
 use Rattle.collect.specs.Promotable.{Act, opens, shuts, prunes, sees, flags, pass_acts}
@@ -48,7 +47,7 @@ recorded m s i = record { active = s.active; seen = at_declaration (declaration_
 abbrev pub act : Model → Known → Act → Known
 act m s (opens x) = record { active = x ∷ s.active; seen = s.seen }
 act m s shuts = record { active = rest s.active; seen = s.seen }
-act m s (prunes x) = over (recorded m) s (identifiers_in m.pool (scope_of m x.0).declarations)
+act m s (prunes x) = fold (recorded m) s (identifiers_in m.pool (scope_of m x.0).declarations)
 act m s (sees i) = record { active = s.active; seen = at_declaration (declaration_of m i.0) (used s.active) s.seen }
 act m s (flags i) = s
 
@@ -58,4 +57,4 @@ has_escaped (since at b) = b
 
 -- the declaration escaped, after the whole tree
 abbrev pub escaped : Model → List Row → ℕ → Bool
-escaped m rs d = has_escaped ((over (act m) nothing (pass_acts rs)).seen d)
+escaped m rs d = has_escaped ((fold (act m) nothing (pass_acts rs)).seen d)

@@ -1,7 +1,7 @@
 -- Which identifiers are used after something was interposed. Assumes nothing.
 use Rattle.std.specs.Prelude.{ℕ, Bool, false, cond, not, ◌&&◌, ◌||◌, List, [], ◌∷◌, ◌++◌, Some, None, ◌==◌}
 use Rattle.hir.specs.declared.ids.IdentifierId.{IdentifierId}
-use Rattle.hir.specs.Lists.{over}
+use Rattle.std.specs.List.{fold}
 use Rattle.interposed.specs.Acts.{Act, uses, fixes, loads, takes, global, barrier, tracks}
 
 -- what is known of identifiers after some acts; exposed: a barrier came since the last tracking
@@ -54,4 +54,4 @@ nothing named = record { named = named; constant = λ i. false; global = λ i. f
 
 -- the identifiers that are used while they have no name, are not constant and are exposed, in the order of their uses
 abbrev pub interposed : (ℕ → Bool) → List Act → List IdentifierId
-interposed named acts = (over act (nothing named) acts).found
+interposed named acts = (fold act (nothing named) acts).found

@@ -2,8 +2,7 @@
 use Rattle.std.specs.Prelude.{ℕ, Bool, cond, not, ◌||◌, List, [], ◌∷◌, ◌==◌, nat_eq}
 use Rattle.hir.specs.declared.tables.JournalRow.{JournalRow}
 use Rattle.hir.specs.Environments.{Model, tag_of, declaration_of, tagged, journaled}
-use Rattle.hir.specs.Lists.{over}
-use Rattle.std.specs.List.{list_any}
+use Rattle.std.specs.List.{fold, list_any}
 
 -- some row is of the identifier
 abbrev pub names : ℕ → List JournalRow → Bool
@@ -26,4 +25,4 @@ abbrev pub name_one : (ℕ → Bool) → Model → JournalRow → Model
 name_one upper m r = journaled (tagged m r.identifier.0 (cond (upper (declaration_of m r.identifier.0)) 3 2)) r
 
 abbrev pub name_all : (ℕ → Bool) → Model → List JournalRow → Model
-name_all upper m rows = over (name_one upper) m rows
+name_all upper m rows = fold (name_one upper) m rows

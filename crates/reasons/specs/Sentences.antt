@@ -4,8 +4,7 @@ use Rattle.hir.specs.declared.ids.IdentifierId.{IdentifierId}
 use Rattle.hir.specs.declared.ids.ScopeId.{ScopeId}
 use Rattle.hir.specs.declared.span.Span.{Span}
 use Rattle.hir.specs.Environments.{Model, declaration_of, scope_of}
-use Rattle.hir.specs.Lists.{over}
-use Rattle.std.specs.List.{list_any}
+use Rattle.std.specs.List.{fold, list_any}
 use Rattle.hir.specs.Spans.{ident, identifiers_in}
 use Rattle.reactive.specs.Rows.{Row}
 use Rattle.collect.specs.Promotable as collect
@@ -42,7 +41,7 @@ active_by ss (collect.flags i) = ss
 module _ (m : Model) (acts : List collect.Act) (d : ℕ) where
   -- the scopes active where act k comes, innermost first
   abbrev pub active_at : ℕ → List ScopeId
-  active_at k = over active_by [] (take k acts)
+  active_at k = fold active_by [] (take k acts)
 
   abbrev pub RecordedAt : ℕ → Type 0
   RecordedAt k = records m d (slice_index_or acts k collect.shuts) ≡ true
@@ -96,7 +95,7 @@ uses_it x (third.tracks l) = false
 module _ (named : ℕ → Bool) (acts : List third.Act) where
   -- what is known where act k comes
   abbrev pub known_at : ℕ → interposed.Known
-  known_at k = over interposed.act (interposed.nothing named) (take k acts)
+  known_at k = fold interposed.act (interposed.nothing named) (take k acts)
 
   abbrev pub act_at : ℕ → third.Act
   act_at k = slice_index_or acts k (third.fixes (ident 0))

@@ -1,27 +1,25 @@
 -- One row of a walk. Assumes nothing.
 use Rattle.std.proofs.Common.{◌≡◌, ◌<◌, true, List, [], ◌∷◌, ◌++◌, length, is_some, Some, None, Option, unwrap_or, sym, refl, ap, ◌∙◌, subst, arith}
-use Rattle.hir.specs.Lists.{over, Each}
+use Rattle.std.proofs.lemmas.List.Sums.{fold-append}
+use Rattle.hir.specs.Lists.{Each}
+use Rattle.std.specs.List.{fold}
 use Rattle.reactive.specs.declared.row.RowHead.{RowHead}
 use Rattle.reactive.specs.Rows.{Reading, head, left, upcoming, advanced, given, last_row, no_row}
 use Rattle.reactive.proofs.Steps.{gives, ended}
 use Rattle.walk.specs.Events.{Event, entering, closing, staying, innermost_of, events, Allowed, Shallow}
-
-pub over_append : {W A : Type 0} (f : W → A → W) (w : W) (xs ys : List A) → over f w (xs ++ ys) ≡ over f (over f w xs) ys
-over_append f w [] ys = refl
-over_append f w (x ∷ xs) ys = over_append f (f w x) xs ys
 
 module _ {W : Type 0} (can : W → Event → Type 0) (after : W → Event → W) where
   allowed_front : (xs ys : List Event) (w : W) → Allowed can after w (xs ++ ys) → Allowed can after w xs
   allowed_front [] ys w a = tt
   allowed_front (x ∷ xs) ys w a = (a.0, allowed_front xs ys (after w x) a.1)
 
-  allowed_back : (xs ys : List Event) (w : W) → Allowed can after w (xs ++ ys) → Allowed can after (over after w xs) ys
+  allowed_back : (xs ys : List Event) (w : W) → Allowed can after w (xs ++ ys) → Allowed can after (fold after w xs) ys
   allowed_back [] ys w a = a
   allowed_back (x ∷ xs) ys w a = allowed_back xs ys (after w x) a.1
 
   -- the rest of the events leads from here to where all lead from the start
   pub record Onward (start at : W) (all rest : List Event) : Type 0 where
-    pub same : over after start all ≡ over after at rest
+    pub same : fold after start all ≡ fold after at rest
     pub allowed : Allowed can after at rest
 
   pub onward_same : (start at : W) (all rest more : List Event) → Onward start at all rest → rest ≡ more → Onward start at all more
@@ -35,12 +33,12 @@ module _ {W : Type 0} (can : W → Event → Type 0) (after : W → Event → W)
   pub onward_front : (start at : W) (all xs rest : List Event) → Onward start at all (xs ++ rest) → Allowed can after at xs
   onward_front start at all xs rest o = allowed_front xs rest at o.allowed
 
-  pub onward_over : (start at on : W) (all xs rest : List Event) → Onward start at all (xs ++ rest) → on ≡ over after at xs → Onward start on all rest
+  pub onward_over : (start at on : W) (all xs rest : List Event) → Onward start at all (xs ++ rest) → on ≡ fold after at xs → Onward start on all rest
   onward_over start at on all xs rest o h =
       let P : W → Type 0 = λ w. Onward start w all rest in
-      subst P (sym h) (record { same = o.same ∙ over_append after at xs rest; allowed = allowed_back xs rest at o.allowed })
+      subst P (sym h) (record { same = o.same ∙ fold-append after at xs rest; allowed = allowed_back xs rest at o.allowed })
 
-  pub onward_end : (start at : W) (all rest : List Event) → Onward start at all rest → rest ≡ [] → at ≡ over after start all
+  pub onward_end : (start at : W) (all rest : List Event) → Onward start at all rest → rest ≡ [] → at ≡ fold after start all
   onward_end start at all rest o e = sym (onward_same start at all rest [] o e).same
 
   -- the rows so far were walked, and these rows are open
@@ -86,7 +84,7 @@ module _ {W : Type 0} (can : W → Event → Type 0) (after : W → Event → W)
     pub closes : Allowed can after at (closing row.depth around)
     closes = onward_front start at _ (closing row.depth around) _ splits
 
-    module _ (mid : W) (parent : Option RowHead) (closed : mid ≡ over after at (closing row.depth around)) (is : parent ≡ innermost_of (staying row.depth around)) where
+    module _ (mid : W) (parent : Option RowHead) (closed : mid ≡ fold after at (closing row.depth around)) (is : parent ≡ innermost_of (staying row.depth around)) where
       enters : Onward start mid (events [] first.rows) (entering parent (last_row t) ∷ events (row ∷ staying row.depth around) (left t))
       unfolding stay
       enters =
@@ -112,5 +110,5 @@ module _ {W : Type 0} (can : W → Event → Type 0) (after : W → Event → W)
     pub closes_all : Allowed can after at (closing 0 around)
     closes_all = finishing.allowed
 
-    pub walked_all : (on : W) → on ≡ over after at (closing 0 around) → on ≡ over after start (events [] first.rows)
+    pub walked_all : (on : W) → on ≡ fold after at (closing 0 around) → on ≡ fold after start (events [] first.rows)
     walked_all on h = h ∙ sym finishing.same

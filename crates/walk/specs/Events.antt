@@ -1,6 +1,6 @@
 -- What a walk does, as a list of events that the rows alone determine. Assumes nothing.
 use Rattle.std.specs.Prelude.{ℕ, ◌<◌, cond, List, [], ◌∷◌, ◌++◌, length, Some, None, Option, nat_le}
-use Rattle.hir.specs.Lists.{over}
+use Rattle.std.specs.List.{fold}
 use Rattle.hir.specs.Scratches.{Tables}
 use Rattle.reactive.specs.declared.row.RowHead.{RowHead}
 use Rattle.reactive.specs.Rows.{Row, head}
@@ -49,7 +49,7 @@ Shallow r = r.depth < 128
 
 -- a pass that turns each event into acts does them one after another
 abbrev pub acting : {W A : Type 0} → (W → A → W) → (Event → List A) → W → Event → W
-acting does acts w e = over does w (acts e)
+acting does acts w e = fold does w (acts e)
 
 -- the acts of a list of events
 abbrev pub acts_of : {A : Type 0} → (Event → List A) → List Event → List A
@@ -58,4 +58,4 @@ acts_of acts (e ∷ es) = acts e ++ acts_of acts es
 
 -- a pass that only turns events into acts on the tables
 abbrev pub on_tables : {V A : Type 0} → (Tables → A → Tables) → (Event → List A) → Whole V → Event → Whole V
-on_tables does acts w e = whole w.visitor (over does w.tables (acts e))
+on_tables does acts w e = whole w.visitor (fold does w.tables (acts e))

@@ -1,5 +1,6 @@
 ghost use Rattle.std.specs.Prelude.{◌≡◌, ◌≤◌, [], length, take, reverse};
-ghost use Rattle.hir.specs.Lists.{over, Each};
+ghost use Rattle.hir.specs.Lists.{Each};
+ghost use Rattle.std.specs.List.{fold};
 ghost use Rattle.hir.specs.Scratches.{tables};
 ghost use Rattle.reactive.specs.Rows.{Reading, rewound};
 ghost use Rattle.walk.specs.Events.{whole, events, closing, Allowed, Shallow};
@@ -25,7 +26,7 @@ fn close<V: Visitor>(
 )
     requires { Allowed V.Visitor.can V.Visitor.after (whole visitor.old (tables env.old scratch.old)) (closing depth (reverse opened.old.items)) }
     ensures rows { opened.new.items ≡ take depth opened.old.items }
-    ensures after { whole visitor.new (tables env.new scratch.new) ≡ over V.Visitor.after (whole visitor.old (tables env.old scratch.old)) (closing depth (reverse opened.old.items)) }
+    ensures after { whole visitor.new (tables env.new scratch.new) ≡ fold V.Visitor.after (whole visitor.old (tables env.old scratch.old)) (closing depth (reverse opened.old.items)) }
 {
     while opened.len() > depth {
         if let Some(row) = opened.pop() {
@@ -43,7 +44,7 @@ pub fn walk<S: TreeSource, V: Visitor>(
 )
     requires shallow { Each Shallow (S.TreeSource.reading source.old).rows }
     requires allowed { Allowed V.Visitor.can V.Visitor.after (whole visitor.old (tables env.old scratch.old)) (events [] (S.TreeSource.reading source.old).rows) }
-    ensures after { whole visitor.new (tables env.new scratch.new) ≡ over V.Visitor.after (whole visitor.old (tables env.old scratch.old)) (events [] (S.TreeSource.reading source.old).rows) }
+    ensures after { whole visitor.new (tables env.new scratch.new) ≡ fold V.Visitor.after (whole visitor.old (tables env.old scratch.old)) (events [] (S.TreeSource.reading source.old).rows) }
     ensures source { S.TreeSource.reading source.new ≡ rewound (S.TreeSource.reading source.old) }
 {
     let mut opened: ArrayVec<RowHead, DEPTH> = ArrayVec::new();

@@ -1,6 +1,6 @@
 use Rattle.std.proofs.Common.{ap, ◌∙◌}
 use Rattle.hir.specs.Environments.{scope_of}
-use Rattle.hir.specs.Lists.{over}
+use Rattle.std.specs.List.{fold}
 use Rattle.hir.specs.Scratches.{Tables, tables}
 use Rattle.hir.specs.Spans.{identifiers_in}
 use Rattle.promote.proofs.Growing.{grows_none}
@@ -40,6 +40,6 @@ returns c =
     let g = next_grows promote_instance grows_instance b b c.requires.sound (grows_none b) scope.declarations sound.declarations _ c.promote_all_instances_list.ensures in
     let h = next_grows promote_instance grows_instance b _ c.requires.sound g scope.dependencies sound.dependencies _ c.promote_all_instances_list-2.ensures in
     next_same promote_instance grows_instance b _ c.requires.sound h scope.reassignments sound.reassignments _ c.promote_all_instances_list-3.ensures
-    ∙ ap (λ (t : Tables). over promote_instance t (identifiers_in b.env.pool scope.reassignments))
+    ∙ ap (λ (t : Tables). fold promote_instance t (identifiers_in b.env.pool scope.reassignments))
     (next_same promote_instance grows_instance b _ c.requires.sound g scope.dependencies sound.dependencies _ c.promote_all_instances_list-2.ensures
-    ∙ ap (λ (t : Tables). over promote_instance t (identifiers_in b.env.pool scope.dependencies)) c.promote_all_instances_list.ensures)
+    ∙ ap (λ (t : Tables). fold promote_instance t (identifiers_in b.env.pool scope.dependencies)) c.promote_all_instances_list.ensures)

@@ -1,6 +1,6 @@
 use Rattle.std.proofs.Common.{ℕ, List, map, sym, ap, ◌∙◌, subst, arith}
 use Rattle.std.proofs.lemmas.List.{drop_all}
-use Rattle.hir.specs.Lists.{over}
+use Rattle.std.specs.List.{fold}
 use Rattle.hir.specs.Scratches.{tables}
 use Rattle.hir.specs.Spans.{ident, part}
 use Rattle.walk.specs.Events.{whole}

@@ -1,7 +1,7 @@
 use Rattle.std.proofs.Common.{ap, ◌∙◌}
 use Rattle.hir.specs.declared.tables.Reason.TheVariants as reasons
 use Rattle.hir.specs.Environments.{scope_of}
-use Rattle.hir.specs.Lists.{over}
+use Rattle.std.specs.List.{fold}
 use Rattle.hir.specs.Scratches.{Tables, tables}
 use Rattle.hir.specs.Spans.{identifiers_in}
 use Rattle.promote.specs.Identifier.{promote_unnamed}
@@ -27,4 +27,4 @@ returns c =
     let sound = c.requires.sound.scopes c.args.id.0 c.requires.known in
     let g = next_grows (promote_unnamed reasons.Scope) (grows_unnamed reasons.Scope) b b c.requires.sound (grows_none b) scope.dependencies sound.dependencies _ c.promote_list.ensures in
     next_same (promote_unnamed reasons.Scope) (grows_unnamed reasons.Scope) b _ c.requires.sound g scope.declarations sound.declarations _ c.promote_list-2.ensures
-    ∙ ap (λ (t : Tables). over (promote_unnamed reasons.Scope) t (identifiers_in b.env.pool scope.declarations)) c.promote_list.ensures
+    ∙ ap (λ (t : Tables). fold (promote_unnamed reasons.Scope) t (identifiers_in b.env.pool scope.declarations)) c.promote_list.ensures

@@ -1,6 +1,6 @@
 use Rattle.std.proofs.Common.{[], sym, ap, ◌∙◌, subst}
 use Rattle.hir.specs.declared.tables.Reason.TheVariants as reasons
-use Rattle.hir.specs.Lists.{over}
+use Rattle.std.specs.List.{fold}
 use Rattle.hir.specs.Scratches.{Tables, tables}
 use Rattle.walk.specs.Events.{Whole, whole, events}
 use Rattle.walk.proofs.Acting.{tables_over, tables_allowed}
@@ -30,6 +30,6 @@ returns g c =
     record {
       after =
           ap (λ (w : Whole PromoteTemporaries). w.tables) (c.walk.ensures.after ∙ tables_over does Ready splits acts (events [] rows) (whole _ on))
-          ∙ ap (λ (t : Tables). over does t (pass_acts rows)) c.promote_list.ensures;
+          ∙ ap (λ (t : Tables). fold does t (pass_acts rows)) c.promote_list.ensures;
       source = c.walk.ensures.source;
     }

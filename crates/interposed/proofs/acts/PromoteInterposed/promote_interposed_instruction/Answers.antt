@@ -1,6 +1,6 @@
 use Rattle.std.proofs.Common.{◌≡◌, Option, sym, ap, ◌∙◌, subst, arith}
 use Rattle.hir.specs.declared.ids.IdentifierId.{IdentifierId}
-use Rattle.hir.specs.Lists.{over}
+use Rattle.std.specs.List.{fold}
 use Rattle.reactive.specs.declared.kind.Kind.{Kind}
 use Rattle.reactive.specs.declared.row.RowHead.{RowHead}
 use Rattle.reactive.specs.Kinds.{kind_number}
