@@ -49,6 +49,7 @@ impl<'a> Reader<'a> {
         self.left.at
     }
 
+    // Whether no section is left.
     pub fn is_done(&self) -> bool
         ensures { result ≡ (length self.now.left.rest.now == 0) }
     {

@@ -15,6 +15,7 @@ pub enum Rank {
     Tree,
 }
 
+// The rank of a section, by its letter.
 impl<'a> From<Section<'a>> for Rank {
     ghost from_gives = { λ s r. rank_number r ≡ (held s).rank };
 
