@@ -15,7 +15,7 @@ use Rattle.hir.specs.Environments.{Model, journal_of}
 use Rattle.hir.specs.Lists.{Each}
 use Rattle.std.specs.List.{fold}
 use Rattle.hir.specs.Refusals.{answered}
-use Rattle.hir.specs.Scratches.{Notes, Tables}
+use Rattle.hir.specs.Scratches.{Tables}
 use Rattle.hir.specs.Sound.{Sound, Known, KnownIn}
 use Rattle.hir.specs.Spans.{identifiers_in}
 use Rattle.reactive.specs.declared.row.Number.{Number}

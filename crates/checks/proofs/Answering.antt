@@ -2,7 +2,7 @@
 use Rattle.std.proofs.Common.{◌≡◌, ℕ, Some, None, Ok, Err, Option, Result, sym, refl, ap, ◌∙◌, arith}
 use Rattle.hir.specs.declared.refusal.Refusal.{Refusal}
 use Rattle.hir.specs.declared.refusal.Refusal.TheVariants as refusals
-use Rattle.hir.specs.Refusals.{answered, or_else}
+use Rattle.hir.specs.Refusals.{answered}
 use Rattle.checks.specs.Rows.{Open, unplaced}
 
 pub refuses : {X : Type 0} (o : Option Refusal) (r : Refusal) (x : X) → o ≡ Some r → Err r ≡ answered o x

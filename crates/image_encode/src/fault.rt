@@ -21,6 +21,7 @@ impl From<TryFromIntError> for EncodeFault {
     }
 }
 
+// Beside the other, since `?` needs one for each error of the library.
 impl From<AllocError> for EncodeFault {
     ghost from_gives = { λ _ r. r ≡ Memory };
 

@@ -47,6 +47,7 @@ impl<T: Drop> From<AllocFailed<T>> for LoadFault {
     }
 }
 
+// Beside the other, since `?` needs one for each error of the library.
 impl From<AllocError> for LoadFault {
     ghost from_gives = { λ _ r. r ≡ Memory };
 

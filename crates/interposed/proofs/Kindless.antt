@@ -1,12 +1,12 @@
 -- A Leaf whose byte is that of no kind only uses its operands. Assumes nothing.
-use Rattle.std.proofs.Common.{◌≡◌, ℕ, ◌<◌, Bool, true, false, cond, not, ◌&&◌, List, [], ◌∷◌, ◌++◌, map, Some, None, Option, refl, ap, ◌∙◌, arith}
+use Rattle.std.proofs.Common.{◌≡◌, ℕ, ◌<◌, false, cond, not, ◌&&◌, List, [], ◌∷◌, ◌++◌, map, Some, None, Option, refl, ap, ◌∙◌, arith}
 use Rattle.std.proofs.lemmas.Bool.{cond-false}
 use Rattle.std.proofs.lemmas.List.{append-nil}
 use Rattle.hir.specs.declared.ids.IdentifierId.{IdentifierId}
 use Rattle.reactive.specs.Codes.{listed}
-use Rattle.interposed.specs.Acts.{Act, uses, fixes, loads, takes, global, barrier, tracks}
-use Rattle.interposed.specs.Interposed.{fix_acts, mark_acts, marks_acts, value_acts, end_acts, leaf_acts}
-use Rattle.interposed.specs.Kinds.{is_load, is_property_load, is_global_load, is_store, is_constant, is_barrier, fixes_marks, may_raise}
+use Rattle.interposed.specs.Acts.{uses, fixes, barrier, tracks}
+use Rattle.interposed.specs.Interposed.{marks_acts, value_acts, end_acts, leaf_acts}
+use Rattle.interposed.specs.Kinds.{is_load, is_property_load, is_global_load, is_store, is_constant, is_barrier, fixes_marks}
 
 module _ (k : ℕ) (h : 41 < k) where
   no_load : is_load k ≡ false

@@ -4,9 +4,9 @@ use Rattle.std.proofs.lemmas.List.Folds.{list_any-append}
 use Rattle.std.proofs.lemmas.Bool.{cases_Bool, cond-true, cond-false, eqb-true}
 use Rattle.hir.specs.declared.tables.JournalRow.{JournalRow}
 use Rattle.hir.specs.Environments.{Model}
-use Rattle.std.specs.List.{fold, list_any}
-use Rattle.reasons.specs.Journals.{names, is_named, firsts, declares}
-use Rattle.reasons.proofs.Bools.{or_false, or_assoc, or_swap}
+use Rattle.std.specs.List.{fold}
+use Rattle.reasons.specs.Journals.{names, is_named, firsts}
+use Rattle.reasons.proofs.Bools.{or_false, or_swap}
 
 -- who has a name once these rows are journalled
 abbrev pub taken : Model → List JournalRow → ℕ → Bool

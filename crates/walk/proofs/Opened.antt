@@ -6,7 +6,7 @@ use Rattle.std.proofs.lemmas.List.{take_all, take-append-drop, length-take, leng
 use Rattle.std.proofs.lemmas.Option.{slice_get-get_or, slice_get_past}
 use Rattle.reactive.specs.declared.row.RowHead.{RowHead}
 use Rattle.reactive.specs.Rows.{head, no_row}
-use Rattle.walk.specs.Events.{leaving, closing, staying, innermost_of}
+use Rattle.walk.specs.Events.{closing, staying, innermost_of}
 
 -- the open rows, innermost first, after one more was opened
 pub reverse_push : (rs : List RowHead) (r : RowHead) → reverse (rs ++ r ∷ []) ≡ r ∷ reverse rs

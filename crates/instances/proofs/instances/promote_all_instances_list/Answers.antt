@@ -1,6 +1,5 @@
 use Rattle.std.proofs.Common.{arith}
-use Rattle.hir.specs.Scratches.{tables}
-use Rattle.promote.proofs.Listing.{listed_none, listed_known, listed_more, listed_all}
+use Rattle.promote.proofs.Listing.{listed_more}
 use Rattle.instances.specs.Instances.{promote_instance}
 use Rattle.instances.proofs.Passes.{grows_instance}
 use Rattle.instances.proofs.instances.promote_all_instances_list.Goals as goal

@@ -1,10 +1,8 @@
-use Rattle.std.proofs.Common.{ℕ, List, map, sym, ap, ◌∙◌, subst, arith}
-use Rattle.std.proofs.lemmas.List.{drop_all}
-use Rattle.std.specs.List.{fold}
+use Rattle.std.proofs.Common.{ℕ, List, map, sym, subst}
 use Rattle.hir.specs.Scratches.{tables}
-use Rattle.hir.specs.Spans.{ident, part}
+use Rattle.hir.specs.Spans.{ident}
 use Rattle.walk.specs.Events.{whole}
-use Rattle.walk.proofs.Acting.{doing_none, doing_one, doing_more, doing_all, slice_here}
+use Rattle.walk.proofs.Acting.{doing_none}
 use Rattle.interposed.specs.Acts.{fixes, does, Ready}
 use Rattle.interposed.proofs.Passes.{splits, map_map}
 use Rattle.interposed.proofs.interposed.fix_parameters.Goals as goal

@@ -1,7 +1,6 @@
 use Rattle.std.proofs.Common.{arith}
 use Rattle.hir.specs.Scratches.{tables}
-use Rattle.promote.proofs.Growing.{sound_grows}
-use Rattle.promote.proofs.Visiting.{grows_mark, start_sound, start_nested, start_known, start_less, visiting_none, visiting_known, visiting_more, visit_marked, visiting_all}
+use Rattle.promote.proofs.Visiting.{start_sound, start_nested, start_known, start_less, visiting_none, visiting_known, visiting_more, visiting_all}
 use Rattle.promote.proofs.temporaries.+visit_hir_function_for_promotion.Goals as goal
 
 pub loop-n-init : goal.loop-n-init

@@ -1,9 +1,7 @@
 use Rattle.std.proofs.Common.{arith}
-use Rattle.hir.specs.Environments.{scope_of}
-use Rattle.hir.specs.Scratches.{tables}
 use Rattle.promote.specs.Temporaries.{promote_escaped}
 use Rattle.promote.proofs.Visiting.{grows_escaped}
-use Rattle.promote.proofs.Listing.{listed_none, listed_known, listed_more, listed_all}
+use Rattle.promote.proofs.Listing.{listed_more}
 use Rattle.promote.proofs.temporaries.promote_pruned_scope.Goals as goal
 
 pub loop-n-preserved : goal.loop-n-preserved

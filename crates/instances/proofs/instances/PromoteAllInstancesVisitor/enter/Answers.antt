@@ -1,7 +1,4 @@
-use Rattle.std.proofs.Common.{ap}
-use Rattle.hir.specs.Scratches.{Tables}
-use Rattle.walk.specs.Events.{whole}
-use Rattle.instances.proofs.Passes.{ready_operands, ready_function, leaf_done}
+use Rattle.instances.proofs.Passes.{ready_function}
 use Rattle.instances.proofs.instances.PromoteAllInstancesVisitor.enter.Goals as goal
 
 pub promote_all_instances_function-requires : goal.promote_all_instances_function-requires

@@ -1,14 +1,12 @@
-use Rattle.std.proofs.Common.{◌≡◌, Option, sym, ap, ◌∙◌, subst, arith}
+use Rattle.std.proofs.Common.{◌≡◌, Option, sym, ap, ◌∙◌, subst}
 use Rattle.hir.specs.declared.ids.IdentifierId.{IdentifierId}
-use Rattle.std.specs.List.{fold}
 use Rattle.reactive.specs.declared.kind.Kind.{Kind}
 use Rattle.reactive.specs.declared.row.RowHead.{RowHead}
 use Rattle.reactive.specs.Kinds.{kind_number}
 use Rattle.reactive.specs.Rows.{Row, head}
-use Rattle.interposed.specs.Acts.{does, Ready}
+use Rattle.interposed.specs.Acts.{Ready}
 use Rattle.interposed.specs.Interposed.{leaf_acts}
-use Rattle.interposed.proofs.Kindless.{kindless}
-use Rattle.interposed.proofs.Passes.{ready_begin, ready_value, ready_uses, ready_end, leaf_done}
+use Rattle.interposed.proofs.Passes.{ready_begin, ready_value, ready_uses, ready_end}
 use Rattle.interposed.proofs.acts.PromoteInterposed.promote_interposed_instruction.Goals as goal
 
 -- the acts of the row, by the kind that its byte stands for
