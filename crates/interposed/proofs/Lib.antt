@@ -1,2 +1,1 @@
 pub mod Passes
-pub mod Kindless

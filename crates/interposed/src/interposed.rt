@@ -3,21 +3,19 @@ ghost use Rattle.hir.specs.Lists.{Each};
 ghost use Rattle.std.specs.List.{fold};
 ghost use Rattle.hir.specs.Scratches.{tables};
 ghost use Rattle.hir.specs.Spans.{identifiers_in};
-ghost use Rattle.reactive.specs.Kinds.{kind_number};
 ghost use Rattle.reactive.specs.Rows.{Reading, rewound};
 ghost use Rattle.walk.specs.Events.{whole, acting, Shallow};
 ghost use Rattle.interposed.specs.Acts.{Act, uses, fixes, does, Ready};
 ghost use Rattle.interposed.specs.Interposed.{fix_acts, mark_acts, value_acts, end_acts, leaf_acts, instruction_in, acts, Readies, begun, pass_acts, promote_interposed};
 
 use crate::acts::PromoteInterposed;
-use crate::kinds::{fixes_marks, is_barrier, is_global_load, may_raise};
+use crate::kinds::{fixes_marks, is_barrier, is_global_load, is_load, is_property_load, may_raise};
 use hir::environment::Environment;
 use hir::ids::IdentifierId;
 use hir::scratch::Scratch;
 use hir::span::Span;
 use reactive::code::Code;
 use reactive::given::GivenRow;
-use reactive::kind::Kind;
 use reactive::row::RowHead;
 use reactive::source::TreeSource;
 use walk::visitor::Visitor;
@@ -50,18 +48,12 @@ impl PromoteInterposed {
     }
 
     // What the kind does before its uses to the marks.
-    fn begin_leaf<S: TreeSource>(
-        &self,
-        env: &Environment,
-        scratch: &mut Scratch,
-        kind: Kind,
-        mode: u8,
-        row: &GivenRow<S>,
-    )
-        requires { Ready (whole self.now (tables env.now scratch.old)) (fix_acts (kind_number kind) mode row.now.marks) }
-        ensures { whole self.now (tables env.now scratch.new) ≡ fold does (whole self.now (tables env.now scratch.old)) (fix_acts (kind_number kind) mode row.now.marks) }
+    fn begin_leaf<S: TreeSource>(&self, env: &Environment, scratch: &mut Scratch, row: &GivenRow<S>)
+        requires { Ready (whole self.now (tables env.now scratch.old)) (fix_acts row.now.kind row.now.mode row.now.marks) }
+        ensures { whole self.now (tables env.now scratch.new) ≡ fold does (whole self.now (tables env.now scratch.old)) (fix_acts row.now.kind row.now.mode row.now.marks) }
     {
-        if fixes_marks(kind, mode) {
+        let head = row.head();
+        if fixes_marks(head.kind, head.mode) {
             self.fix_marks(env, scratch, row);
         }
     }
@@ -72,18 +64,16 @@ impl PromoteInterposed {
         env: &Environment,
         scratch: &mut Scratch,
         lvalue: IdentifierId,
-        kind: Kind,
+        kind: u8,
         mark: IdentifierId,
     )
-        requires { Ready (whole self.now (tables env.now scratch.old)) (mark_acts (kind_number kind) lvalue mark) }
-        ensures { whole self.now (tables env.now scratch.new) ≡ fold does (whole self.now (tables env.now scratch.old)) (mark_acts (kind_number kind) lvalue mark) }
+        requires { Ready (whole self.now (tables env.now scratch.old)) (mark_acts kind lvalue mark) }
+        ensures { whole self.now (tables env.now scratch.new) ≡ fold does (whole self.now (tables env.now scratch.old)) (mark_acts kind lvalue mark) }
     {
-        match kind {
-            Kind::LoadLocal | Kind::LoadContext => self.load(env, scratch, lvalue, mark),
-            Kind::PropertyLoad | Kind::ComputedLoad => {
-                self.load_property(env, scratch, lvalue, mark);
-            }
-            _ => {}
+        if is_load(kind) {
+            self.load(env, scratch, lvalue, mark);
+        } else if is_property_load(kind) {
+            self.load_property(env, scratch, lvalue, mark);
         }
     }
 
@@ -93,15 +83,15 @@ impl PromoteInterposed {
         env: &Environment,
         scratch: &mut Scratch,
         lvalue: Option<IdentifierId>,
-        kind: Kind,
         row: &GivenRow<S>,
     )
-        requires { Ready (whole self.now (tables env.now scratch.old)) (value_acts (kind_number kind) lvalue row.now.marks) }
-        ensures { whole self.now (tables env.now scratch.new) ≡ fold does (whole self.now (tables env.now scratch.old)) (value_acts (kind_number kind) lvalue row.now.marks) }
+        requires { Ready (whole self.now (tables env.now scratch.old)) (value_acts row.now.kind lvalue row.now.marks) }
+        ensures { whole self.now (tables env.now scratch.new) ≡ fold does (whole self.now (tables env.now scratch.old)) (value_acts row.now.kind lvalue row.now.marks) }
     {
         let Some(l) = lvalue else {
             return;
         };
+        let kind = row.head().kind;
         if is_global_load(kind) {
             self.load_global(env, scratch, l);
         } else if let Some(mark) = row.marks().next() {
@@ -115,11 +105,11 @@ impl PromoteInterposed {
         env: &Environment,
         scratch: &mut Scratch,
         lvalue: Option<IdentifierId>,
-        kind: Kind,
+        kind: u8,
         mode: u8,
     )
-        requires { Ready (whole self.old (tables env.now scratch.old)) (end_acts (kind_number kind) mode lvalue) }
-        ensures { whole self.new (tables env.now scratch.new) ≡ fold does (whole self.old (tables env.now scratch.old)) (end_acts (kind_number kind) mode lvalue) }
+        requires { Ready (whole self.old (tables env.now scratch.old)) (end_acts kind mode lvalue) }
+        ensures { whole self.new (tables env.now scratch.new) ≡ fold does (whole self.old (tables env.now scratch.old)) (end_acts kind mode lvalue) }
     {
         if may_raise(kind, mode) {
             self.raise(env, scratch, lvalue);
@@ -143,13 +133,10 @@ impl PromoteInterposed {
         ensures { whole self.new (tables env.new scratch.new) ≡ fold does (whole self.old (tables env.old scratch.old)) (leaf_acts lvalue row.now.kind row.now.mode row.now.marks row.now.operands) }
     {
         let head = row.head();
-        let Ok(kind) = Kind::try_from(head.kind) else {
-            return self.use_operands(env, scratch, row);
-        };
-        self.begin_leaf(env, scratch, kind, head.mode, row);
-        self.load_value(env, scratch, lvalue, kind, row);
+        self.begin_leaf(env, scratch, row);
+        self.load_value(env, scratch, lvalue, row);
         self.use_operands(env, scratch, row);
-        self.end_leaf(env, scratch, lvalue, kind, head.mode);
+        self.end_leaf(env, scratch, lvalue, head.kind, head.mode);
     }
 }
 

@@ -1,29 +1,48 @@
-// How the kinds of Leaf are treated directly under an Instruction.
+// How the kinds of Leaf are treated directly under an Instruction, by the bytes that rows have.
 ghost use Rattle.std.specs.Prelude.{◌≡◌};
-ghost use Rattle.reactive.specs.Kinds.{kind_number};
-ghost use Rattle.interposed.specs.Kinds.{is_global_load, is_store, is_constant, is_barrier, fixes_marks, may_raise};
+ghost use Rattle.interposed.specs.Kinds.{is_load, is_property_load, is_global_load, is_store, is_constant, is_barrier, fixes_marks, may_raise};
 
 use reactive::kind::Kind;
 use reactive::mode::Mode;
 
-// A global load.
-pub fn is_global_load(kind: Kind) -> bool
-    ensures { result ≡ is_global_load (kind_number kind) }
-{
-    matches!(kind, Kind::LoadGlobal)
-}
-
-// The kinds that store to their marks.
-fn is_store(kind: Kind) -> bool
-    ensures { result ≡ is_store (kind_number kind) }
+// The loads of a place.
+pub fn is_load(kind: u8) -> bool
+    ensures { result ≡ is_load kind }
 {
     matches!(
-        kind,
-        Kind::StoreLocal | Kind::StoreContext | Kind::Destructure
+        Kind::try_from(kind),
+        Ok(Kind::LoadLocal | Kind::LoadContext)
     )
 }
 
-// Whether the mode is that of a constant.
+// The loads of a property.
+pub fn is_property_load(kind: u8) -> bool
+    ensures { result ≡ is_property_load kind }
+{
+    matches!(
+        Kind::try_from(kind),
+        Ok(Kind::PropertyLoad | Kind::ComputedLoad)
+    )
+}
+
+// A global load.
+pub fn is_global_load(kind: u8) -> bool
+    ensures { result ≡ is_global_load kind }
+{
+    kind == Kind::LoadGlobal as u8
+}
+
+// The kinds that store to their marks.
+fn is_store(kind: u8) -> bool
+    ensures { result ≡ is_store kind }
+{
+    matches!(
+        Kind::try_from(kind),
+        Ok(Kind::StoreLocal | Kind::StoreContext | Kind::Destructure)
+    )
+}
+
+// The modes of a constant.
 fn is_constant(mode: u8) -> bool
     ensures { result ≡ is_constant mode }
 {
@@ -31,39 +50,41 @@ fn is_constant(mode: u8) -> bool
 }
 
 // The kinds after which other code may have run.
-pub fn is_barrier(kind: Kind) -> bool
-    ensures { result ≡ is_barrier (kind_number kind) }
+pub fn is_barrier(kind: u8) -> bool
+    ensures { result ≡ is_barrier kind }
 {
     is_store(kind)
         || matches!(
-            kind,
-            Kind::CallExpression
-                | Kind::MethodCall
-                | Kind::PropertyStore
-                | Kind::PropertyDelete
-                | Kind::ComputedStore
-                | Kind::ComputedDelete
-                | Kind::StoreGlobal
-                | Kind::Await
-                | Kind::PrefixUpdate
-                | Kind::PostfixUpdate
+            Kind::try_from(kind),
+            Ok(
+                Kind::CallExpression
+                    | Kind::MethodCall
+                    | Kind::PropertyStore
+                    | Kind::PropertyDelete
+                    | Kind::ComputedStore
+                    | Kind::ComputedDelete
+                    | Kind::StoreGlobal
+                    | Kind::Await
+                    | Kind::PrefixUpdate
+                    | Kind::PostfixUpdate
+            )
         )
 }
 
 // Whether the marks become constant: those of a method call, and those declared or stored to as a constant.
-pub fn fixes_marks(kind: Kind, mode: u8) -> bool
-    ensures { result ≡ fixes_marks (kind_number kind) mode }
+pub fn fixes_marks(kind: u8, mode: u8) -> bool
+    ensures { result ≡ fixes_marks kind mode }
 {
-    match kind {
-        Kind::MethodCall => true,
-        Kind::DeclareLocal | Kind::DeclareContext => is_constant(mode),
+    match Kind::try_from(kind) {
+        Ok(Kind::MethodCall) => true,
+        Ok(Kind::DeclareLocal | Kind::DeclareContext) => is_constant(mode),
         _ => is_store(kind) && is_constant(mode),
     }
 }
 
 // Whether a barrier is raised where the lvalue is absent or named.
-pub fn may_raise(kind: Kind, mode: u8) -> bool
-    ensures { result ≡ may_raise (kind_number kind) mode }
+pub fn may_raise(kind: u8, mode: u8) -> bool
+    ensures { result ≡ may_raise kind mode }
 {
     is_barrier(kind) && !(is_store(kind) && is_constant(mode))
 }
