@@ -1,10 +1,7 @@
 -- Bytes written one element at a time. Assumes nothing.
-use Rattle.std.proofs.Common.{◌≡◌, ℕ, zero, suc, ◌+◌, ◌<◌, ◌≤◌, List, [], ◌∷◌, ◌++◌, map, length, get_or, drop, Some, sym, ap, ◌∙◌, append_assoc, append-nil, add-one, drop-cons}
+use Rattle.std.proofs.Common.{◌≡◌, ℕ, ◌+◌, ◌<◌, ◌≤◌, List, ◌++◌, length, get_or, drop, sym, ap, ◌∙◌, append_assoc, append-nil, add-one, drop-cons}
 use Rattle.std.proofs.lemmas.List.{drop_all}
-use Rattle.std.specs.List.{slice_get}
-use Rattle.hir.specs.declared.ids.IdentifierId.{IdentifierId}
 use Rattle.image.specs.Bytes.{joined}
-use Rattle.image_encode.specs.Fields.{plain}
 
 -- what is written of each, where some are written and the rest are left
 module _ {X : Type 0} (write : X → List ℕ) where
@@ -18,10 +15,3 @@ module _ {X : Type 0} (write : X → List ℕ) where
 
   pub written_all : (start out : List ℕ) (xs : List X) (i : ℕ) → length xs ≤ i → out ++ joined write (drop i xs) ≡ start ++ joined write xs → out ≡ start ++ joined write xs
   written_all start out xs i le inv = sym (append-nil out) ∙ ap (λ t. out ++ joined write t) (sym (drop_all i xs le)) ∙ inv
-
--- items of a row's list
-
-pub nth_plain : (l : List IdentifierId) (i : ℕ) (id : IdentifierId) → Some id ≡ slice_get l i → id.0 ≡ get_or (map plain l) i 0
-nth_plain [] i id e = absurd (cc)
-nth_plain (x ∷ l) zero id e = let s : id ≡ x = cc in ap plain s
-nth_plain (x ∷ l) (suc i) id e = nth_plain l i id e

@@ -1,8 +1,5 @@
 // The fields of a row as bytes.
-ghost use Rattle.std.specs.Prelude.{◌≡◌, ℕ, ◌^◌, ◌<◌, ◌≤◌, List, ◌++◌, map, length, IfErr, Some, IsSome, Option, OnOk};
-ghost use Rattle.std.specs.List.{slice_get};
-ghost use Rattle.hir.specs.declared.ids.IdentifierId.{IdentifierId};
-ghost use Rattle.reactive.specs.Rows.{Reading, head, given, last_row};
+ghost use Rattle.std.specs.Prelude.{◌≡◌, ◌^◌, ◌≤◌, ◌++◌, map, length, IfErr, OnOk};
 ghost use Rattle.image.specs.Layouts.{numbers};
 ghost use Rattle.image.specs.Format.{fields};
 ghost use Rattle.image_encode.specs.declared.fault.EncodeFault.TheVariants.{Unfit};
@@ -12,6 +9,7 @@ use crate::bytes::write_u32;
 use crate::fault::EncodeFault;
 use hir::ids::IdentifierId;
 use reactive::code::Code;
+use reactive::given::{GivenRow, Identifiers};
 use reactive::row::{Number, RowHead};
 use reactive::source::TreeSource;
 
@@ -47,42 +45,35 @@ pub fn fits(row: &RowHead) -> bool
     identifier_fits && number_fits
 }
 
-// A list of `count` identifiers, each of which `item` answers at its place.
-fn write_items<F: Fn(usize) -> Option<IdentifierId>>(
+// A list of a row, which has `count` identifiers.
+fn write_items<S: TreeSource>(
     out: &mut Vec<u8>,
+    ids: Identifiers<S>,
     count: usize,
-    item: F,
 ) -> Result<(), EncodeFault>
-    requires callable { F.IsAlwaysCallable item }
-    requires there { (i : ℕ) (r : Option IdentifierId) → i < count → F.post item i r → IsSome r }
-    ensures items { (list : List IdentifierId) → count ≡ length list → ((i : ℕ) (r : Option IdentifierId) → F.post item i r → r ≡ slice_get list i) → OnOk result (out.new.items ≡ out.old.items ++ numbers.write (map plain list)) }
+    requires { count ≡ length ids }
+    ensures items { OnOk result (out.new.items ≡ out.old.items ++ numbers.write (map plain ids.entry)) }
     ensures fault { IfErr result (λ e. (e ≡ Unfit → 2 ^ 32 ≤ count)) }
 {
     write_u32(out, u32::try_from(count)?)?;
-    for i in 0..count {
-        let Some(id) = item(i) else { unreachable!() };
+    for id in ids {
         write_u32(out, id.0)?;
     }
     Ok(())
 }
 
-// The fields of the row last given.
-pub fn write_fields<S: TreeSource>(
-    out: &mut Vec<u8>,
-    source: &S,
-    row: &RowHead,
-) -> Result<(), EncodeFault>
-    requires last { given (S.TreeSource.reading source.now) ≡ Some (last_row (S.TreeSource.reading source.now)) }
-    requires head { row.now ≡ head (last_row (S.TreeSource.reading source.now)) }
-    ensures items { OnOk result (out.new.items ≡ out.old.items ++ fields.write (fields_of (last_row (S.TreeSource.reading source.now)))) }
-    ensures fault { IfErr result (λ e. (e ≡ Unfit → LongList (last_row (S.TreeSource.reading source.now)))) }
+// The fields of a row.
+pub fn write_fields<S: TreeSource>(out: &mut Vec<u8>, row: &GivenRow<S>) -> Result<(), EncodeFault>
+    ensures items { OnOk result (out.new.items ≡ out.old.items ++ fields.write (fields_of row.now)) }
+    ensures fault { IfErr result (λ e. (e ≡ Unfit → LongList row.now)) }
 {
-    out.push(row.code)?;
-    write_u32(out, identifier_word(row.identifier))?;
-    write_u32(out, number_word(row.number))?;
-    out.push(row.kind)?;
-    out.push(row.mode)?;
-    write_items(out, row.operands, |i| source.operand(i))?;
-    write_items(out, row.marks, |i| source.mark(i))?;
+    let head = row.head();
+    out.push(head.code)?;
+    write_u32(out, identifier_word(head.identifier))?;
+    write_u32(out, number_word(head.number))?;
+    out.push(head.kind)?;
+    out.push(head.mode)?;
+    write_items(out, row.operands(), head.operands)?;
+    write_items(out, row.marks(), head.marks)?;
     Ok(())
 }
