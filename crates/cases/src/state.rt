@@ -75,7 +75,7 @@ impl State {
         let full = Work {
             tag: true,
             promoted: true,
-            recorded: Some(Some(0)),
+            recorded: Some(None),
             escaped: true,
             constant: true,
             global: true,

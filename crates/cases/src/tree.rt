@@ -6,7 +6,6 @@ use crate::fault::Fault;
 use crate::names::{code, kind};
 use crate::words::{first_word, list, number};
 use hir::ids::{FunctionId, IdentifierId, ScopeId};
-use hir::span::Span;
 use reactive::row::Number;
 use reactive::table::{RowEntry, TableSource};
 use std::alloc::Global;

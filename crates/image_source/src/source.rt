@@ -56,7 +56,7 @@ impl<'a> ImageSource<'a> {
         }
     }
 
-    // Closes the rows that are read to their end, each of them once; counts the depth down, as the open rows are in an array.
+    // Closes the rows that are read to their end, each of them once.
     fn close_ended(&mut self)
         ensures same { image_reading self.new ≡ image_reading self.old }
         ensures closed { length self.new.at.left.rest.now ≡ 0 → self.new.at.depth ≡ 0 }

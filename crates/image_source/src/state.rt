@@ -12,7 +12,6 @@ use image::cursor::Cursor;
 pub struct ImageSource<'a> {
     pub(crate) rows: Cursor<'a>,
     pub(crate) at: Standing<'a>,
-    // an array with the depth beside it, and no ArrayVec: a push alone would break `ok`, which holds after every write
     pub(crate) behind: [&'a [u8]; 128],
     ghost ok: { ∥ Stands (see rows) (see_standing at) (map (λ x. x.now) behind) ∥₁ },
 }

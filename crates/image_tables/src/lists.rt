@@ -13,7 +13,7 @@ use image::cursor::Cursor;
 use image::fields::Numbers;
 use std::alloc::AllocError;
 
-// Puts the numbers of a list behind the pool's.
+// Puts the numbers of a list behind the pool's, by place: a loop over chunks would decode bytes here, which `at` does.
 fn add_numbers<'a>(pool: &mut Vec<u32>, list: Numbers<'a>) -> Result<(), AllocError>
     ensures { OnOk result (pool.new.items ≡ pool.old.items ++ see_numbers list.entry) }
 {
@@ -71,8 +71,8 @@ pub fn add_lists<const N: usize>(
 {
     let mut spans = [Span { start: 0, count: 0 }; N];
     let mut rest = Cursor::new(content);
-    for i in 0..N {
-        (spans[i], rest) = add_list(pool, rest)?;
+    for span in spans.iter_mut() {
+        (*span, rest) = add_list(pool, rest)?;
     }
     Ok(spans)
 }

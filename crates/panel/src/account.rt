@@ -42,22 +42,23 @@ fn print_fields(rt: &HostRuntime, row: &RowHead) -> io::Result<()> {
     Ok(())
 }
 
-// Prints the operands of the row last given.
-fn print_operands<S: TreeSource>(rt: &HostRuntime, row: &RowHead, source: &S) -> io::Result<()> {
-    for id in (0..row.operands).filter_map(|i| source.operand(i)) {
+// Prints the operands of a row.
+fn print_operands<S: TreeSource>(rt: &HostRuntime, row: &GivenRow<S>) -> io::Result<()> {
+    for id in row.operands() {
         print!(rt; " ${}", id.0)?;
     }
     Ok(())
 }
 
-// Prints the row last given, indented by its depth.
-fn print_row<S: TreeSource>(rt: &HostRuntime, row: &RowHead, source: &S) -> io::Result<()> {
-    for _ in 0..row.depth {
+// Prints a row, indented by its depth.
+fn print_row<S: TreeSource>(rt: &HostRuntime, row: &GivenRow<S>) -> io::Result<()> {
+    let head = row.head();
+    for _ in 0..head.depth {
         print!(rt; "  ")?;
     }
-    print_case::<Code>(rt, row.code)?;
-    print_fields(rt, row)?;
-    print_operands(rt, row, source)?;
+    print_case::<Code>(rt, head.code)?;
+    print_fields(rt, head)?;
+    print_operands(rt, row)?;
     println!(rt; "")
 }
 
@@ -65,7 +66,7 @@ fn print_row<S: TreeSource>(rt: &HostRuntime, row: &RowHead, source: &S) -> io::
 pub fn print_rows<S: TreeSource>(rt: &HostRuntime, source: &mut S) -> io::Result<()> {
     source.rewind();
     while let Some(row) = source.next() {
-        print_row(rt, &row, source)?;
+        print_row(rt, &GivenRow::new(row, source))?;
     }
     source.rewind();
     Ok(())
