@@ -22,17 +22,14 @@ fn identifier_of(number: u32) -> Option<IdentifierId>
 }
 
 // The number of a Scope or Pruned row is a scope, that of any other a function.
-// `RowHead::is` would tell the code, but the row is made of this number.
 fn number_of(code: u8, number: u32) -> Option<Number>
     ensures { result ≡ number_of code number }
 {
-    if number == u32::MAX {
-        return None;
+    match (number, Code::try_from(code)) {
+        (u32::MAX, _) => None,
+        (_, Ok(Code::Scope | Code::Pruned)) => Some(Number::Scope(ScopeId(number))),
+        _ => Some(Number::Function(FunctionId(number))),
     }
-    if code == Code::Scope as u8 || code == Code::Pruned as u8 {
-        return Some(Number::Scope(ScopeId(number)));
-    }
-    Some(Number::Function(FunctionId(number)))
 }
 
 // The row of these fields, without its lists.
