@@ -175,18 +175,15 @@ impl Visitor for CollectPromotable {
         row: &GivenRow<S>,
     ) {
         let head = row.head();
-        if head.is(Code::Scope) {
-            if let Some(scope) = head.scope() {
-                self.open_scope(scratch, scope);
+        match (Code::try_from(head.code), head.scope()) {
+            (Ok(Code::Scope), Some(scope)) => self.open_scope(scratch, scope),
+            (Ok(Code::Pruned), Some(scope)) => self.record_pruned_scope(env, scratch, scope),
+            (Ok(Code::Leaf), _) => self.collect_promotable_instruction(env, scratch, row),
+            _ => {
+                if let Some(id) = head.used() {
+                    self.collect_promotable_place(env, scratch, id);
+                }
             }
-        } else if head.is(Code::Pruned) {
-            if let Some(scope) = head.scope() {
-                self.record_pruned_scope(env, scratch, scope);
-            }
-        } else if head.is(Code::Leaf) {
-            self.collect_promotable_instruction(env, scratch, row);
-        } else if let Some(id) = head.used() {
-            self.collect_promotable_place(env, scratch, id);
         }
     }
 
