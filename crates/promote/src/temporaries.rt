@@ -99,16 +99,13 @@ impl Visitor for PromoteTemporaries {
         row: &GivenRow<S>,
     ) {
         let row = row.head();
-        match row.number {
-            Some(Number::Scope(scope)) => {
-                if row.is(Code::Scope) {
-                    promote_scope(env, scratch, scope);
-                } else if row.is(Code::Pruned) {
-                    promote_pruned_scope(env, scratch, scope);
-                }
+        match (Code::try_from(row.code), row.number) {
+            (Ok(Code::Scope), Some(Number::Scope(scope))) => promote_scope(env, scratch, scope),
+            (Ok(Code::Pruned), Some(Number::Scope(scope))) => {
+                promote_pruned_scope(env, scratch, scope)
             }
-            Some(Number::Function(function)) => promote_inner_function(env, scratch, function),
-            None => {}
+            (_, Some(Number::Function(function))) => promote_inner_function(env, scratch, function),
+            _ => {}
         }
     }
 
