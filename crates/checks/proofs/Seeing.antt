@@ -55,9 +55,11 @@ module _ {z : Sizes} {start s : Reading} {stack : Open} {seen scopes : ℕ} (inv
     pub over_depth : 127 < row.depth → rows_refusal z 0 [] start.rows ≡ Some refusals.Depth
     over_depth h = tests ∙ cond-false _ _ _ (sym in_limit) ∙ cond-true _ _ _ (lt-ltb _ _ h)
 
-    module _ (shallow : row.depth ≤ 127) where
+    module _ (shallow : row.depth < 128) where
       further : (o : Option Open) → opened stack row.depth row.code ≡ o → rows_refusal z 0 [] start.rows ≡ shaped o opened_then
-      further o e = tests ∙ cond-false _ _ _ (sym in_limit) ∙ cond-false _ _ _ (le-ltb _ _ shallow) ∙ ap (λ x. shaped x opened_then) e
+      further o e =
+          let at_most : row.depth ≤ 127 = omega (arith, shallow) in
+          tests ∙ cond-false _ _ _ (sym in_limit) ∙ cond-false _ _ _ (le-ltb _ _ at_most) ∙ ap (λ x. shaped x opened_then) e
 
       pub over_shape : opened stack row.depth row.code ≡ None → rows_refusal z 0 [] start.rows ≡ Some refusals.Shape
       over_shape e = further None e

@@ -7,7 +7,7 @@ ghost use Rattle.checks.specs.Rows.{sizes, row_passes_limit, rows_refusal, scope
 
 use crate::fields::wrong_fields;
 use crate::sizes::Sizes;
-use crate::stack::Stack;
+use crate::stack::{MOST_OPEN, Stack};
 use hir::environment::Environment;
 use hir::refusal::Refusal;
 use hir::scratch::Scratch;
@@ -19,9 +19,6 @@ use reactive::source::TreeSource;
 
 // The most rows of a tree.
 const MOST_ROWS: usize = 262144;
-
-// The greatest depth of a row: the stack holds one row more.
-const DEEPEST: u32 = 127;
 
 // Whether a row comes after the most that a tree has, or has a list that is too long.
 fn passes_limit(seen: usize, row: &RowHead) -> bool
@@ -45,16 +42,18 @@ fn check_all<S: TreeSource>(source: &mut S, sizes: Sizes) -> Result<usize, Refus
         if passes_limit(seen, &row) {
             return Err(Refusal::Limit);
         }
-        if row.depth > DEEPEST {
+        let depth = row.depth as usize;
+        if depth >= MOST_OPEN {
             return Err(Refusal::Depth);
         }
         let Ok(code) = Code::try_from(row.code) else {
             return Err(Refusal::Shape);
         };
-        stack.enter(row.depth as usize, code)?;
+        stack.enter(depth, code)?;
         if wrong_fields(&GivenRow::new(row, source), code, sizes) {
             return Err(Refusal::Field);
         }
+        // Of the row and not of `code`: a proof by the derived equality was tried and did not close.
         if row.is(Code::Scope) {
             scopes += 1;
         }

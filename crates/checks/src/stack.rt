@@ -12,13 +12,13 @@ use hir::refusal::Refusal;
 use reactive::code::Code;
 use std::marker::Model;
 
-// How many rows may be open at once.
-const DEPTH: usize = 128;
+// How many rows may be open at once: each is one deeper than the row that it lies in.
+pub const MOST_OPEN: usize = 128;
 
 // The open rows, outermost first, each as the places that it has left.
 #[derive(Drop)]
 pub struct Stack {
-    rows: ArrayVec<&'static [Slot], DEPTH>,
+    rows: ArrayVec<&'static [Slot], MOST_OPEN>,
 }
 
 impl Model for Stack {
@@ -50,7 +50,7 @@ impl Stack {
         }
     }
 
-    // Whether a row that one of this depth closes lacks a child.
+    // Whether a row that one of this depth closes lacks a child. By a loop: a proof for `any` was tried and did not close.
     fn lacks(&self, depth: usize) -> bool
         requires { depth ≤ length self.now }
         ensures { result ≡ list_any lacking (closing self.now depth) }

@@ -14,7 +14,7 @@ use hir::ids::{FunctionId, IdentifierId, ScopeId};
 use hir::scratch::Scratch;
 use hir::span::Span;
 use hir::tables::Reason;
-use promote::identifier::promote_if;
+use promote::identifier::promote_unnamed;
 use reactive::code::Code;
 use reactive::given::GivenRow;
 use reactive::row::RowHead;
@@ -28,8 +28,9 @@ fn promote_all_instances_place(env: &mut Environment, scratch: &mut Scratch, id:
     requires sound { Sound (tables env.old scratch.old) }
     ensures { tables env.new scratch.new ≡ promote_instance (tables env.old scratch.old) id }
 {
-    let promoted = scratch.work[env.declaration(id).0 as usize].promoted;
-    promote_if(env, scratch, id, Reason::SameDeclaration, promoted);
+    if scratch.work[env.declaration(id).0 as usize].promoted {
+        promote_unnamed(env, scratch, id, Reason::SameDeclaration);
+    }
 }
 
 // The same for the identifiers of a list. Every pass loops over its lists itself: a rule of this project.

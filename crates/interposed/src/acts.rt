@@ -7,7 +7,7 @@ use hir::environment::Environment;
 use hir::ids::IdentifierId;
 use hir::scratch::Scratch;
 use hir::tables::Reason;
-use promote::identifier::promote_if;
+use promote::identifier::promote_unnamed;
 
 // The third pass: `epoch` is one more than the barriers so far.
 #[derive(Clone, Copy)]
@@ -23,13 +23,9 @@ impl PromoteInterposed {
     {
         let work = scratch.work[id.0 as usize];
         let exposed = work.tracked.is_some_and(|epoch| epoch < self.epoch);
-        promote_if(
-            env,
-            scratch,
-            id,
-            Reason::Interposed,
-            !work.constant && exposed,
-        );
+        if !work.constant && exposed {
+            promote_unnamed(env, scratch, id, Reason::Interposed);
+        }
     }
 
     // An identifier becomes constant.

@@ -1,10 +1,10 @@
-ghost use Rattle.std.specs.Prelude.{◌≡◌, ◌&&◌};
+ghost use Rattle.std.specs.Prelude.{◌≡◌};
 ghost use Rattle.hir.specs.Environments.{model, tag_of};
 ghost use Rattle.std.specs.List.{fold};
 ghost use Rattle.hir.specs.Scratches.{tables};
 ghost use Rattle.hir.specs.Sound.{Sound, Known, KnownIn};
 ghost use Rattle.hir.specs.Spans.{identifiers_in};
-ghost use Rattle.promote.specs.Identifier.{is_unnamed, promoted, promote_if, promote_unnamed};
+ghost use Rattle.promote.specs.Identifier.{promoted, promote_unnamed};
 
 use hir::environment::Environment;
 use hir::ids::IdentifierId;
@@ -53,23 +53,6 @@ pub fn promote_unnamed(
 {
     if env.is_unnamed(id) {
         promote_identifier(env, scratch, id, reason);
-    }
-}
-
-// Names an identifier that has no name, where this holds.
-pub fn promote_if(
-    env: &mut Environment,
-    scratch: &mut Scratch,
-    id: IdentifierId,
-    reason: Reason,
-    holds: bool,
-)
-    requires known { Known (model env.old) id }
-    requires sound { Sound (tables env.old scratch.old) }
-    ensures { tables env.new scratch.new ≡ promote_if (is_unnamed (model env.old) id && holds) reason (tables env.old scratch.old) id }
-{
-    if holds {
-        promote_unnamed(env, scratch, id, reason);
     }
 }
 

@@ -9,7 +9,7 @@ ghost use Rattle.reactive.specs.Rows.{Reading, rewound};
 ghost use Rattle.walk.specs.Events.{Shallow, on_tables};
 ghost use Rattle.promote.specs.Temporaries.{promote_escaped, visit, unvisited, does, Act, scope, pruned, inner, acts, Readies, Ready, pass_acts, promote_temporaries};
 
-use crate::identifier::{promote_if, promote_list};
+use crate::identifier::{promote_list, promote_unnamed};
 use hir::environment::Environment;
 use hir::ids::{FunctionId, IdentifierId, ScopeId};
 use hir::scratch::Scratch;
@@ -28,8 +28,9 @@ fn promote_escaped(env: &mut Environment, scratch: &mut Scratch, id: IdentifierI
     requires sound { Sound (tables env.old scratch.old) }
     ensures { tables env.new scratch.new ≡ promote_escaped (tables env.old scratch.old) id }
 {
-    let escaped = scratch.work[env.declaration(id).0 as usize].escaped;
-    promote_if(env, scratch, id, Reason::Escape, escaped);
+    if scratch.work[env.declaration(id).0 as usize].escaped {
+        promote_unnamed(env, scratch, id, Reason::Escape);
+    }
 }
 
 // Names what a Scope row's scope depends on and declares.

@@ -20,12 +20,12 @@ returns-then-passes_limit g c =
       rows = seeing.rows_same c.loop-row.invariant c.in-Some.row gave on;
     }
 
-pub returns-then-row-gt-DEEPEST : goal.returns-then-row-gt-DEEPEST
-returns-then-row-gt-DEEPEST g c =
+pub returns-then-depth-ge-MOST_OPEN : goal.returns-then-depth-ge-MOST_OPEN
+returns-then-depth-ge-MOST_OPEN g c =
     let gave = c.in-Some.ensures.value in
     let on = c.next.ensures.after in
     record {
-      value = refuses _ _ _ (seeing.over_depth c.loop-row.invariant c.in-Some.row gave on c.if-passes_limit.ensures c.if-row-gt-DEEPEST.true);
+      value = refuses _ _ _ (seeing.over_depth c.loop-row.invariant c.in-Some.row gave on c.if-passes_limit.ensures c.if-depth-ge-MOST_OPEN.true);
       rows = seeing.rows_same c.loop-row.invariant c.in-Some.row gave on;
     }
 
@@ -43,7 +43,7 @@ returns g c =
 
 pub returns-in_default-try_from-clause-value : goal.returns-in_default-try_from-clause-value
 returns-in_default-try_from-clause-value g c =
-    refuses _ _ _ (seeing.over_shape c.loop-row.invariant c.in-Some.row c.in-Some.ensures.value c.next.ensures.after c.if-passes_limit.ensures c.if-row-gt-DEEPEST.false (opened_none c.in-Some.row.code c.in_default-try_from.ensures.1 c.loop-row.stack c.in-Some.row.depth))
+    refuses _ _ _ (seeing.over_shape c.loop-row.invariant c.in-Some.row c.in-Some.ensures.value c.next.ensures.after c.if-passes_limit.ensures c.if-depth-ge-MOST_OPEN.false (opened_none c.in-Some.row.code c.in_default-try_from.ensures.1 c.loop-row.stack c.in-Some.row.depth))
 
 pub returns-in_err-enter-clause-value : goal.returns-in_err-enter-clause-value
 returns-in_err-enter-clause-value g c =
@@ -51,7 +51,7 @@ returns-in_err-enter-clause-value g c =
     let q = unplaced_refused _ c.in_err-enter.field-0.0 c.in_err-enter.ensures.value in
     let none = ap (opened c.loop-row.stack c.in-Some.row.depth) (sym c.in-Ok.ensures) ∙ q.0 in
     hands_on c.from_residual.result _ p.0 c.in_err-enter.field-0.0 _ p.1 p.2
-    (seeing.over_shape c.loop-row.invariant c.in-Some.row c.in-Some.ensures.value c.next.ensures.after c.if-passes_limit.ensures c.if-row-gt-DEEPEST.false none ∙ ap Some (sym q.1))
+    (seeing.over_shape c.loop-row.invariant c.in-Some.row c.in-Some.ensures.value c.next.ensures.after c.if-passes_limit.ensures c.if-depth-ge-MOST_OPEN.false none ∙ ap Some (sym q.1))
 
 pub new-requires : goal.new-requires
 new-requires g c =
@@ -66,7 +66,7 @@ pub returns-then-wrong_fields-clause-value : goal.returns-then-wrong_fields-clau
 returns-then-wrong_fields-clause-value g c =
     let opens = ap (opened c.loop-row.stack c.in-Some.row.depth) (sym c.in-Ok.ensures) ∙ c.in_ok-enter.ensures.rows in
     let wrong = c.if-wrong_fields.ensures ∙ ap (wrong_fields c.args.sizes) c.new.ensures in
-    refuses _ _ _ (seeing.over_field c.loop-row.invariant c.in-Some.row c.in-Some.ensures.value c.next.ensures.after c.if-passes_limit.ensures c.if-row-gt-DEEPEST.false c.enter.new.self opens wrong)
+    refuses _ _ _ (seeing.over_field c.loop-row.invariant c.in-Some.row c.in-Some.ensures.value c.next.ensures.after c.if-passes_limit.ensures c.if-depth-ge-MOST_OPEN.false c.enter.new.self opens wrong)
 
 pub loop-row-preserved : goal.loop-row-preserved
 loop-row-preserved g c =
@@ -74,7 +74,7 @@ loop-row-preserved g c =
     let right = c.if-wrong_fields.ensures ∙ ap (wrong_fields c.args.sizes) c.new.ensures in
     let is : c.if-is.scopes ≡ c.loop-row.scopes + cond (eqb c.in-Some.row.code 3) 1 0 = elim c.if-is.branch [ then-is w ↦ grind (arith, nat_tests) | else-is w ↦ grind (arith, nat_tests) ] in
     let few : c.if-is.scopes ≤ c.loop-row.seen + 1 = elim c.if-is.branch [ then-is w ↦ omega (arith, w.scopes-is, c.loop-row.invariant.few) | else-is w ↦ omega (arith, w.scopes-is, c.loop-row.invariant.few) ] in
-    seeing.seen_on c.loop-row.invariant c.in-Some.row c.in-Some.ensures.value c.next.ensures.after c.if-passes_limit.ensures c.if-row-gt-DEEPEST.false c.enter.new.self opens right _ is few
+    seeing.seen_on c.loop-row.invariant c.in-Some.row c.in-Some.ensures.value c.next.ensures.after c.if-passes_limit.ensures c.if-depth-ge-MOST_OPEN.false c.enter.new.self opens right _ is few
 
 pub returns-in_err-finish-clause-value : goal.returns-in_err-finish-clause-value
 returns-in_err-finish-clause-value g c =
