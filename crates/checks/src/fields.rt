@@ -2,7 +2,7 @@
 ghost use Rattle.std.specs.Prelude.{◌≡◌};
 ghost use Rattle.reactive.specs.Codes.{code_number};
 ghost use Rattle.reactive.specs.Kinds.{kind_number};
-ghost use Rattle.checks.specs.Rows.{needs_identifier, may_have_identifier, wrong_identifier, needs_scope, needs_function, wrong_number, wrong_mode, one_mark, wrong_marks, absent_in, wrong_leaf, leafless, wrong_fields};
+ghost use Rattle.checks.specs.Rows.{needs_identifier, may_have_identifier, wrong_identifier, needs_function, wrong_number, wrong_mode, one_mark, wrong_marks, absent_in, wrong_leaf, leafless, wrong_fields};
 
 use crate::sizes::Sizes;
 use hir::ids::IdentifierId;
@@ -38,13 +38,6 @@ fn wrong_identifier(count: usize, code: Code, identifier: Option<IdentifierId>) 
     }
 }
 
-// Whether a row of this code has to have a scope.
-fn needs_scope(code: Code) -> bool
-    ensures { result ≡ needs_scope (code_number code) }
-{
-    matches!(code, Code::Scope | Code::Pruned)
-}
-
 // Whether a row is a Leaf that is a function expression or an object method.
 fn needs_function(code: Code, row: &RowHead) -> bool
     ensures { result ≡ needs_function (code_number code) row.now.kind }
@@ -58,10 +51,10 @@ fn wrong_number(sizes: Sizes, code: Code, row: &RowHead) -> bool
     ensures { result ≡ wrong_number sizes (code_number code) row.now.kind row.now.number }
 {
     match row.number {
-        Some(Number::Scope(scope)) => !needs_scope(code) || scope.0 as usize >= sizes.scopes,
+        Some(Number::Scope(scope)) => !code.has_scope() || scope.0 as usize >= sizes.scopes,
         Some(Number::Function(function)) => !needs_function(code, row)
             || function.0 as usize >= sizes.functions,
-        None => needs_scope(code) || needs_function(code, row),
+        None => code.has_scope() || needs_function(code, row),
     }
 }
 

@@ -7,11 +7,11 @@ ghost use Rattle.checks.specs.Rows.{sizes, row_passes_limit, rows_refusal, scope
 
 use crate::fields::wrong_fields;
 use crate::sizes::Sizes;
-use crate::stack::{MOST_OPEN, Stack};
+use crate::stack::Stack;
 use hir::environment::Environment;
 use hir::refusal::Refusal;
 use hir::scratch::Scratch;
-use hir::span::LONGEST_LIST;
+use hir::span::{LONGEST_LIST, MOST_OPEN};
 use reactive::code::Code;
 use reactive::given::GivenRow;
 use reactive::row::RowHead;

@@ -9,11 +9,9 @@ ghost use Rattle.checks.specs.Rows.{wrong_depth, closing, placed, opened, unplac
 use crate::grammar::{Slot, children, follow, lacking};
 use arrayvec::ArrayVec;
 use hir::refusal::Refusal;
+use hir::span::MOST_OPEN;
 use reactive::code::Code;
 use std::marker::Model;
-
-// How many rows may be open at once: each is one deeper than the row that it lies in.
-pub const MOST_OPEN: usize = 128;
 
 // The open rows, outermost first, each as the places that it has left.
 #[derive(Drop)]

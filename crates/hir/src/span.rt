@@ -4,6 +4,9 @@ ghost use Rattle.hir.specs.Spans.{part};
 // The longest list that a run takes.
 pub const LONGEST_LIST: u32 = 4096;
 
+// How many rows of a tree may be open at once: each lies in the one before.
+pub const MOST_OPEN: usize = 128;
+
 // A list: a part of a pool of numbers.
 #[derive(Clone, Copy, Default, PartialEq)]
 pub struct Span {

@@ -7,6 +7,7 @@ ghost use Rattle.image_check.specs.Steps.{lists_end, content_at, spent_at, one_a
 ghost use Rattle.image_check.specs.Verdicts.{Verdict};
 
 use crate::rank::Rank;
+use hir::span::MOST_OPEN;
 use image::cursor::Cursor;
 use image::fault::{RowFault, SectionFault};
 use image::row::check_row;
@@ -33,7 +34,7 @@ fn check_content<'a>(rank: Rank, content: Cursor<'a>) -> Result<Cursor<'a>, RowF
         Rank::Identifiers => Ok(content.past(content.rest.len() / 5 * 5)),
         Rank::Scope => Ok(past_lists(content, 3)?),
         Rank::Function => Ok(past_lists(content, 2)?),
-        Rank::Tree => check_row(past_lists(content, 1)?, 128),
+        Rank::Tree => check_row(past_lists(content, 1)?, MOST_OPEN as u8),
     }
 }
 

@@ -35,7 +35,7 @@ fn number_word(number: Option<Number>) -> u32
 pub fn fits(row: &RowHead) -> bool
     ensures { result ≡ fits_in row.now.code row.now.identifier row.now.number }
 {
-    let has_scope = row.is(Code::Scope) || row.is(Code::Pruned);
+    let has_scope = Code::try_from(row.code).is_ok_and(|code| code.has_scope());
     let identifier_fits = row.identifier.is_none_or(|id| id.0 != u32::MAX);
     let number_fits = match row.number {
         Some(Number::Scope(scope)) => has_scope && scope.0 != u32::MAX,

@@ -6,6 +6,7 @@ ghost use Rattle.image_encode.specs.Opens.{Closed, ClosedTo, TooLong, fits_at};
 use crate::bytes::write_u32;
 use crate::fault::EncodeFault;
 use crate::row::fits;
+use hir::span::MOST_OPEN;
 use reactive::row::RowHead;
 
 // What is written so far of the open rows: of the innermost, and of those around it.
@@ -50,7 +51,7 @@ impl OpenRows {
     {
         let height = self.around.len();
         row.depth as usize <= height
-            && row.depth < 128
+            && (row.depth as usize) < MOST_OPEN
             && (height == 0 || row.depth > 0)
             && fits(row)
     }

@@ -27,7 +27,7 @@ fn number_of(code: u8, number: u32) -> Option<Number>
 {
     match (number, Code::try_from(code)) {
         (u32::MAX, _) => None,
-        (_, Ok(Code::Scope | Code::Pruned)) => Some(Number::Scope(ScopeId(number))),
+        (_, Ok(code)) if code.has_scope() => Some(Number::Scope(ScopeId(number))),
         _ => Some(Number::Function(FunctionId(number))),
     }
 }

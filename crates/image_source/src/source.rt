@@ -11,6 +11,7 @@ use crate::row::{identifier_at, row_head};
 use crate::standing::Standing;
 pub use crate::state::ImageSource;
 use hir::ids::IdentifierId;
+use hir::span::MOST_OPEN;
 use image::cursor::Cursor;
 use image::fields::Numbers;
 use image::row::check_row;
@@ -37,7 +38,7 @@ fn checked_rows<'a>(content: &'a [u8]) -> Cursor<'a>
     let Ok((_, rows)) = Cursor::new(content).read_numbers() else {
         return none;
     };
-    match check_row(rows, 128) {
+    match check_row(rows, MOST_OPEN as u8) {
         Ok(behind) if behind.is_empty() => rows,
         _ => none,
     }
@@ -52,11 +53,11 @@ impl<'a> ImageSource<'a> {
         ImageSource {
             rows,
             at: Standing::new(rows),
-            behind: [rows.rest; 128],
+            behind: [rows.rest; MOST_OPEN],
         }
     }
 
-    // Closes the rows that are read to their end, each of them once.
+    // Closes the rows that are read to their end, each of them once: how many these are is known only on the way.
     fn close_ended(&mut self)
         ensures same { image_reading self.new ≡ image_reading self.old }
         ensures closed { length self.new.at.left.rest.now ≡ 0 → self.new.at.depth ≡ 0 }

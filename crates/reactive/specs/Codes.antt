@@ -30,6 +30,10 @@ code_number codes.Label = 22
 code_number codes.Try = 23
 code_number codes.Handler = 24
 
+-- rows that have a scope: Scope, Pruned
+abbrev pub has_scope : ℕ → Bool
+has_scope c = c == 3 || c == 4
+
 -- rows that use their identifier: Return, Throw, Switch, Case, If, Handler
 abbrev pub uses_identifier : ℕ → Bool
 uses_identifier c = (nat_le 12 c && nat_le c 15) || (c == 21 || c == 24)

@@ -1,5 +1,6 @@
 // The codes of rows.
-ghost use Rattle.reactive.specs.Codes.{code_number};
+ghost use Rattle.reactive.specs.Codes.{code_number, has_scope};
+ghost use Rattle.std.specs.Prelude.{◌≡◌};
 ghost use Rattle.hir.specs.Bytes.{Decodes};
 
 use hir::unknown::Unknown;
@@ -31,6 +32,15 @@ pub enum Code {
     Label = 22,
     Try = 23,
     Handler = 24,
+}
+
+impl Code {
+    // Whether a row of this code has a scope.
+    pub fn has_scope(self) -> bool
+        ensures { result ≡ has_scope (code_number self) }
+    {
+        matches!(self, Code::Scope | Code::Pruned)
+    }
 }
 
 // Written out: there is no derive for it.

@@ -9,16 +9,14 @@ use crate::visitor::Visitor;
 use arrayvec::ArrayVec;
 use hir::environment::Environment;
 use hir::scratch::Scratch;
+use hir::span::MOST_OPEN;
 use reactive::given::GivenRow;
 use reactive::row::RowHead;
 use reactive::source::TreeSource;
 
-// How many rows may be open at once.
-const DEPTH: usize = 128;
-
 // Leaves the open rows from a depth on, innermost first.
 fn close<V: Visitor>(
-    opened: &mut ArrayVec<RowHead, DEPTH>,
+    opened: &mut ArrayVec<RowHead, MOST_OPEN>,
     depth: usize,
     visitor: &mut V,
     env: &mut Environment,
@@ -47,7 +45,7 @@ pub fn walk<S: TreeSource, V: Visitor>(
     ensures after { whole visitor.new (tables env.new scratch.new) ≡ fold V.Visitor.after (whole visitor.old (tables env.old scratch.old)) (events [] (S.TreeSource.reading source.old).rows) }
     ensures source { S.TreeSource.reading source.new ≡ rewound (S.TreeSource.reading source.old) }
 {
-    let mut opened: ArrayVec<RowHead, DEPTH> = ArrayVec::new();
+    let mut opened: ArrayVec<RowHead, MOST_OPEN> = ArrayVec::new();
     source.rewind();
     while let Some(row) = source.next() {
         close(&mut opened, row.depth as usize, visitor, env, scratch);
