@@ -1,5 +1,5 @@
 -- What each function of the reader answers, step by step. Assumes nothing.
-use Rattle.std.specs.Prelude.{◌≡◌, ℕ, zero, suc, ◌+◌, ◌-◌, ◌*◌, cond, List, [], ◌∷◌, length, take, drop, Ok, Err, Result, ◌==◌, nat_lt, slice_index}
+use Rattle.std.specs.Prelude.{◌≡◌, ℕ, zero, suc, ◌+◌, ◌-◌, ◌*◌, cond, List, [], ◌∷◌, map, length, take, drop, Ok, Err, Result, ◌==◌, nat_lt, slice_index}
 use Rattle.image.specs.declared.fault.ByteFault.{ByteFault}
 use Rattle.image.specs.declared.fault.SectionFault.{SectionFault}
 use Rattle.image.specs.declared.fault.SectionFault.TheVariants.{Version, Letter, Left, Bytes}
@@ -69,7 +69,7 @@ fields_at = both u8_at (both u32_at (both u32_at (both u8_at (both u8_at (both n
 
 -- the numbers of a list that borrows its part of the image
 abbrev pub see_numbers : Numbers → List ℕ
-see_numbers n = words n.bytes.now
+see_numbers n = map u32_of n.words.now
 
 abbrev pub see_fields : RowFields → Fields
 see_fields f = (f.code, (f.identifier, (f.number, (f.kind, (f.mode, (see_numbers f.operands, see_numbers f.marks))))))

@@ -36,13 +36,15 @@ impl<'a> Cursor<'a> {
     }
 
     // A list's count and numbers, and what follows them.
+    #[tactic(auto, using(crate::proofs::Words::chunks_are))]
     pub fn read_numbers(self) -> Result<(Numbers<'a>, Cursor<'a>), ByteFault>
         ensures { Is (λ v. (see_numbers v.0, see v.1)) result (numbers_at (see self.entry)) }
     {
         let (count, body) = self.read_u32()?;
         let fault = ByteFault { at: self.at };
         let (list, rest) = body.split(count as usize * 4).ok_or(fault)?;
-        Ok((Numbers { bytes: list.rest }, rest))
+        let (words, _) = list.rest.as_chunks::<4>();
+        Ok((Numbers { words }, rest))
     }
 
     // What a length counts, and what follows it.

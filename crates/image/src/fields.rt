@@ -1,5 +1,6 @@
 // A row's fields, with its lists as parts of the image.
-ghost use Rattle.std.specs.Prelude.{◌≡◌, ◌<◌, [], length, slice_index};
+ghost use Rattle.std.specs.Prelude.{◌≡◌, [], length};
+ghost use Rattle.std.specs.List.{slice_get};
 ghost use Rattle.image.specs.Bytes.{see};
 ghost use Rattle.image.specs.Steps.{Is, fields_at, see_fields, see_numbers};
 
@@ -9,32 +10,29 @@ use crate::fault::ByteFault;
 // The numbers of a list, four bytes each.
 #[derive(Clone, Copy)]
 pub struct Numbers<'a> {
-    pub bytes: &'a [u8],
+    pub words: &'a [[u8; 4]],
 }
 
-#[tactic(auto, using(crate::proofs::Words::length_words))]
 impl<'a> Numbers<'a> {
     // No numbers.
     pub fn none() -> Numbers<'a>
         ensures { see_numbers result ≡ [] }
     {
-        Numbers { bytes: &[] }
+        Numbers { words: &[] }
     }
 
     // How many there are.
     pub fn len(self) -> usize
         ensures { result ≡ length (see_numbers self.entry) }
     {
-        self.bytes.len() / 4
+        self.words.len()
     }
 
     // Number i.
-    pub fn at(self, i: usize) -> u32
-        requires { i < length (see_numbers self) }
-        ensures { result ≡ slice_index (see_numbers self.entry) i }
+    pub fn get(self, i: usize) -> Option<u32>
+        ensures { result ≡ slice_get (see_numbers self.entry) i }
     {
-        let (words, _) = self.bytes.as_chunks::<4>();
-        u32::from_be_bytes(words[i])
+        self.words.get(i).map(|word| u32::from_be_bytes(*word))
     }
 }
 

@@ -7,6 +7,7 @@ use lib.Seq.{map-set}
 use Rattle.std.specs.Coded.{Coded-set, coded_option}
 use Rattle.std.specs.Option.{option_map}
 use Rattle.std.specs.List.{slice_get}
+use Rattle.std.proofs.lemmas.Option.{slice_get-map}
 use Rattle.std.proofs.lemmas.Bool.{cond-true, cond-false, lt-ltb, le-ltb}
 use Rattle.hir.specs.declared.ids.IdentifierId.{IdentifierId}
 use Rattle.hir.specs.contracts.ids.IdentifierId as identifier
@@ -53,11 +54,11 @@ module _ (s : ImageSource) where
   pub restarts : (at : Standing) → see_standing at ≡ starting (see s.rows) → ∥ Stands (see s.rows) (see_standing at) (map (λ x. x.now) s.behind) ∥₁
   restarts at e = ∥∥₁_map s.ok (λ st. starts (see s.rows) (see_standing at) (map (λ x. x.now) s.behind) e st.holder st.fills)
 
-  pub operand_is : (i : ℕ) → slice_get (map ident (see_numbers s.at.operands)) i ≡ operand_at (image_reading s) i
-  operand_is i = ∥∥₁_elim s.ok (identifier_set _ _) (λ st. ap (λ l. slice_get l i) (sym st.operands) ∙ picked (λ r. r.operands) (given (image_reading s)) i)
+  pub operand_is : (i : ℕ) → option_map ident (slice_get (see_numbers s.at.operands) i) ≡ operand_at (image_reading s) i
+  operand_is i = ∥∥₁_elim s.ok (identifier_set _ _) (λ st. sym (slice_get-map ident (see_numbers s.at.operands) i) ∙ ap (λ l. slice_get l i) (sym st.operands) ∙ picked (λ r. r.operands) (given (image_reading s)) i)
 
-  pub mark_is : (i : ℕ) → slice_get (map ident (see_numbers s.at.marks)) i ≡ mark_at (image_reading s) i
-  mark_is i = ∥∥₁_elim s.ok (identifier_set _ _) (λ st. ap (λ l. slice_get l i) (sym st.marks) ∙ picked (λ r. r.marks) (given (image_reading s)) i)
+  pub mark_is : (i : ℕ) → option_map ident (slice_get (see_numbers s.at.marks) i) ≡ mark_at (image_reading s) i
+  mark_is i = ∥∥₁_elim s.ok (identifier_set _ _) (λ st. sym (slice_get-map ident (see_numbers s.at.marks) i) ∙ ap (λ l. slice_get l i) (sym st.marks) ∙ picked (λ r. r.marks) (given (image_reading s)) i)
 
   -- no row is left to close, and none reads: all were given
   module _ (closed : length s.at.left.rest.now ≡ 0 → s.at.depth ≡ 0) (e : SectionFault) (is : head_at (see s.at.left) ≡ Err e) where

@@ -1,13 +1,11 @@
 // A row of an image, as a source gives it.
-ghost use Rattle.std.specs.Prelude.{◌≡◌, map};
-ghost use Rattle.std.specs.List.{slice_get};
-ghost use Rattle.hir.specs.Spans.{ident};
+ghost use Rattle.std.specs.Prelude.{◌≡◌};
 ghost use Rattle.reactive.specs.Rows.{head};
-ghost use Rattle.image.specs.Steps.{see_numbers, see_fields};
+ghost use Rattle.image.specs.Steps.{see_fields};
 ghost use Rattle.image_source.specs.Trees.{identifier_of, number_of, row_of};
 
 use hir::ids::{FunctionId, IdentifierId, ScopeId};
-use image::fields::{Numbers, RowFields};
+use image::fields::RowFields;
 use reactive::code::Code;
 use reactive::row::{Number, RowHead};
 
@@ -46,14 +44,4 @@ pub fn row_head<'a>(depth: u32, fields: RowFields<'a>) -> RowHead
         operands: fields.operands.len(),
         marks: fields.marks.len(),
     }
-}
-
-// Identifier i of a list.
-pub fn identifier_at<'a>(list: Numbers<'a>, i: usize) -> Option<IdentifierId>
-    ensures { result ≡ slice_get (map ident (see_numbers list.entry)) i }
-{
-    if i >= list.len() {
-        return None;
-    }
-    Some(IdentifierId(list.at(i)))
 }

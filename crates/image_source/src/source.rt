@@ -7,7 +7,7 @@ ghost use Rattle.image_source.specs.Sections.{held_rows, section_rows, section_p
 ghost use Rattle.image_source.specs.Standings.{see_standing};
 ghost use Rattle.image_source.specs.Sources.{image_reading};
 
-use crate::row::{identifier_at, row_head};
+use crate::row::row_head;
 use crate::standing::Standing;
 pub use crate::state::ImageSource;
 use hir::ids::IdentifierId;
@@ -108,13 +108,11 @@ impl<'a> TreeSource for ImageSource<'a> {
         Some(row_head(at.depth, fields))
     }
 
-    #[tactic(auto, using(crate::proofs::Keeps::operand_is))]
     fn operand(&self, i: usize) -> Option<IdentifierId> {
-        identifier_at(self.at.operands, i)
+        self.at.operands.get(i).map(IdentifierId)
     }
 
-    #[tactic(auto, using(crate::proofs::Keeps::mark_is))]
     fn mark(&self, i: usize) -> Option<IdentifierId> {
-        identifier_at(self.at.marks, i)
+        self.at.marks.get(i).map(IdentifierId)
     }
 }

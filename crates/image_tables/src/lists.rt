@@ -13,12 +13,12 @@ use image::cursor::Cursor;
 use image::fields::Numbers;
 use std::alloc::AllocError;
 
-// Puts the numbers of a list behind the pool's, by place: a loop over chunks would decode bytes here, which `at` does.
+// Puts the numbers of a list behind the pool's.
 fn add_numbers<'a>(pool: &mut Vec<u32>, list: Numbers<'a>) -> Result<(), AllocError>
     ensures { OnOk result (pool.new.items ≡ pool.old.items ++ see_numbers list.entry) }
 {
-    for i in 0..list.len() {
-        pool.push(list.at(i))?;
+    for word in list.words {
+        pool.push(u32::from_be_bytes(*word))?;
     }
     Ok(())
 }
