@@ -7,13 +7,6 @@ use crate::cursor::Cursor;
 use crate::fault::ByteFault;
 use crate::fields::Numbers;
 
-// The number that four bytes say, the highest first.
-pub fn u32_of(a: u8, b: u8, c: u8, d: u8) -> u32
-    ensures { result ≡ a * 2 ^ 24 + b * 2 ^ 16 + c * 2 ^ 8 + d }
-{
-    u32::from_be_bytes([a, b, c, d])
-}
-
 impl<'a> Cursor<'a> {
     // A byte, and what follows it.
     pub fn read_u8(self) -> Result<(u8, Cursor<'a>), ByteFault>
@@ -30,7 +23,7 @@ impl<'a> Cursor<'a> {
         ensures { Is (λ v. (v.0, see v.1)) result (u32_at (see self.entry)) }
     {
         match self.rest {
-            [a, b, c, d, ..] => Ok((u32_of(*a, *b, *c, *d), self.past(4))),
+            [a, b, c, d, ..] => Ok((u32::from_be_bytes([*a, *b, *c, *d]), self.past(4))),
             _ => Err(ByteFault { at: self.at }),
         }
     }

@@ -44,7 +44,7 @@ pub enum Layer {
 }
 
 impl Cause {
-    // The number of the refusal.
+    // The number of the refusal. A method and no From: the name says what the byte is.
     pub fn number(self) -> u8
         ensures { result ≡ cause_number self }
     {
@@ -53,7 +53,7 @@ impl Cause {
 }
 
 impl Layer {
-    // Its number, from the bytes up.
+    // Its number, from the bytes up. A method and no From: the name says what the byte is.
     pub fn number(self) -> u8
         ensures { result ≡ layer_number self }
     {

@@ -3,7 +3,6 @@ ghost use Rattle.std.specs.Prelude.{◌≡◌, ℕ, ◌+◌, ◌^◌, ◌<◌, �
 ghost use Rattle.image.specs.Bytes.{see};
 ghost use Rattle.image.specs.Steps.{Is, held, see_open, see_reader, section_at, opened_at, closed_at, version_at};
 
-use crate::bytes::u32_of;
 use crate::cursor::Cursor;
 use crate::fault::{ByteFault, SectionFault};
 
@@ -65,7 +64,7 @@ impl<'a> Reader<'a> {
         let Reader { left } = self;
         match left.rest {
             [a, b, c, d, letter, rest @ ..] => {
-                let size = u32_of(*a, *b, *c, *d) as usize;
+                let size = u32::from_be_bytes([*a, *b, *c, *d]) as usize;
                 let content = Cursor {
                     rest,
                     at: left.at + 5,

@@ -8,7 +8,6 @@ ghost use Rattle.image_tables.specs.Tables.{identifier_row, AddedList, AddedList
 use hir::ids::DeclarationId;
 use hir::span::Span;
 use hir::tables::Identifier;
-use image::bytes::u32_of;
 use image::cursor::Cursor;
 use image::fields::Numbers;
 use std::alloc::AllocError;
@@ -30,7 +29,7 @@ pub fn add_identifiers(identifiers: &mut Vec<Identifier>, content: &[u8]) -> Res
     let (rows, _) = content.as_chunks::<5>();
     for [a, b, c, d, tag] in rows {
         identifiers.push(Identifier {
-            declaration: DeclarationId(u32_of(*a, *b, *c, *d)),
+            declaration: DeclarationId(u32::from_be_bytes([*a, *b, *c, *d])),
             tag: *tag,
         })?;
     }

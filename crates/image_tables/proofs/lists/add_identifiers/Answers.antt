@@ -13,8 +13,8 @@ loop-a-preserved c =
     let i = c.loop-a.a-index in
     let front = c.as_chunks.ensures.front in
     let lt : i < length bs / 5 = omega (arith, c.as_chunks.ensures.front_len) in
-    let x : Identifier = record { declaration = record { 0 = c.u32_of.result }; tag = get_or (get_or c.as_chunks.result.0.now i []) 4 0 } in
-    let value = c.u32_of.ensures ∙ ap (λ ws. u32_of (get_or ws i [])) front in
+    let x : Identifier = record { declaration = record { 0 = c.from_be_bytes.result }; tag = get_or (get_or c.as_chunks.result.0.now i []) 4 0 } in
+    let value = c.from_be_bytes.ensures ∙ ap (λ ws. u32_of (get_or ws i [])) front in
     let tag = ap (λ ws. get_or (get_or ws i []) 4 0) front in
     ap (map identifier_row) c.in_ok-push.ensures.items
     ∙ map-append identifier_row (vec_items c.loop-a.identifiers) (x ∷ [])
