@@ -5,7 +5,7 @@ ghost use Rattle.image.specs.Format.{fields};
 ghost use Rattle.image_encode.specs.declared.fault.EncodeFault.TheVariants.{Unfit};
 ghost use Rattle.image_encode.specs.Fields.{plain, identifier_word, number_word, fits_in, fields_of, LongList};
 
-use crate::bytes::write_u32;
+use crate::bytes::{write_numbers, write_u32};
 use crate::fault::EncodeFault;
 use hir::ids::IdentifierId;
 use reactive::code::Code;
@@ -20,7 +20,7 @@ fn identifier_word(identifier: Option<IdentifierId>) -> u32
     identifier.map_or(u32::MAX, |id| id.0)
 }
 
-// The word that stands for an optional scope or function.
+// The word that stands for an optional scope or function. No From: neither type is of this crate.
 fn number_word(number: Option<Number>) -> u32
     ensures { result ≡ number_word number }
 {
@@ -55,10 +55,7 @@ fn write_items<S: TreeSource>(
     ensures items { OnOk result (out.new.items ≡ out.old.items ++ numbers.write (map plain ids.entry)) }
     ensures fault { IfErr result (λ e. (e ≡ Unfit → 2 ^ 32 ≤ count)) }
 {
-    write_u32(out, u32::try_from(count)?)?;
-    for id in ids {
-        write_u32(out, id.0)?;
-    }
+    write_numbers(out, u32::try_from(count)?, ids.map(|id| id.0))?;
     Ok(())
 }
 
