@@ -1,5 +1,6 @@
 -- Where a source over bytes stands. Assumes nothing.
-use Rattle.std.specs.Prelude.{◌≡◌, ℕ, zero, suc, ◌+◌, List, [], ◌++◌, map, length, drop, Some, None, Ok, Option, slice_index_or}
+use Rattle.std.specs.Prelude.{◌≡◌, ℕ, suc, ◌+◌, List, [], ◌∷◌, ◌++◌, map, reverse, length, drop, Some, None, Ok, Option}
+use Rattle.std.specs.Borrow.{Bor}
 use Rattle.hir.specs.declared.ids.IdentifierId.{IdentifierId}
 use Rattle.hir.specs.Spans.{ident}
 use Rattle.reactive.specs.Rows.{Row, before}
@@ -10,59 +11,58 @@ use Rattle.image_source.specs.declared.standing.Standing.{Standing}
 use Rattle.image_source.specs.Trees.{all_rows, tree_rows}
 use Rattle.image_source.specs.Sections.{held_rows}
 
--- what follows open row h in its holder
-abbrev pub tail : List (List ℕ) → ℕ → List ℕ
-tail behind h = slice_index_or behind h []
+-- what follows each open row, innermost first: a source has the innermost last
+abbrev pub innermost_first : List (Bor (List ℕ)) → List (List ℕ)
+innermost_first behind = reverse (map (λ x. x.now) behind)
 
 -- where a holder ends
 abbrev pub end : Place → ℕ
 end p = p.0 + length p.1
 
--- the rows behind h open rows, the innermost of which ends at byte e, where n more may be open
-pub data Below (behind : List (List ℕ)) : (h n e : ℕ) → List Row → Type 0 where
-  outside : {n e : ℕ} → Below behind zero n e []
-  within : {h n e : ℕ} {rest : List Row} (ts : List (Tree (suc n))) → Inside (e, tail behind h) → many_at (row_at (suc n)) (e, tail behind h) ≡ Ok ts → Below behind h (suc n) (end (e, tail behind h)) rest → Below behind (suc h) n e (all_rows (tree_rows (suc n) h) ts ++ rest)
+-- the rows behind open rows, by what follows each, innermost first: the first ends at byte e, where n more may be open
+abbrev pub Below : List (List ℕ) → ℕ → ℕ → List Row → Type 0
+Below [] n e rows = rows ≡ []
+Below (bs ∷ around) n e rows = (ts : List (Tree (suc n))) × (rest : List Row) × Inside (e, bs) × (many_at (row_at (suc n)) (e, bs) ≡ Ok ts) × Below around (suc n) (end (e, bs)) rest × (rows ≡ all_rows (tree_rows (suc n) (length around)) ts ++ rest)
 
 -- a list of the row last given, empty without one
 abbrev pub list_of : (Row → List IdentifierId) → Option Row → List IdentifierId
 list_of f None = []
 list_of f (Some r) = f r
 
--- what is left of the innermost open row, the depth there, how many rows were given, and the lists of the last
+-- what is left of the innermost open row, how many rows were given, and the lists of the last
 pub record Stand : Type 0 where
   pub left : Place
-  pub depth : ℕ
   pub given : ℕ
   pub operands : List ℕ
   pub marks : List ℕ
 
 -- what a standing stands for
 abbrev pub see_standing : Standing → Stand
-see_standing s = record { left = see s.left; depth = s.depth; given = s.given; operands = see_numbers s.operands; marks = see_numbers s.marks }
+see_standing s = record { left = see s.left; given = s.given; operands = see_numbers s.operands; marks = see_numbers s.marks }
 
 -- before the first of the rows at a place
 abbrev pub starting : Place → Stand
-starting p = record { left = p; depth = 0; given = 0; operands = []; marks = [] }
+starting p = record { left = p; given = 0; operands = []; marks = [] }
 
--- at the same byte, with these bytes left there, at this depth
-abbrev pub closed_to : Stand → List ℕ → ℕ → Stand
-closed_to s rest depth = record { left = (s.left.0, rest); depth = depth; given = s.given; operands = s.operands; marks = s.marks }
+-- at the same byte, with these bytes left there
+abbrev pub closed_to : Stand → List ℕ → Stand
+closed_to s rest = record { left = (s.left.0, rest); given = s.given; operands = s.operands; marks = s.marks }
 
 -- the row with this head is given, and is open
 abbrev pub opened_to : Stand → Fields × Place × Place → Stand
-opened_to s h = record { left = h.1; depth = s.depth + 1; given = s.given + 1; operands = h.0.1.1.1.1.1.0; marks = h.0.1.1.1.1.1.1 }
+opened_to s h = record { left = h.1; given = s.given + 1; operands = h.0.1.1.1.1.1.0; marks = h.0.1.1.1.1.1.1 }
 
 -- of the rows at a place, those to come fill what is left of the innermost open row and lie behind the open ones
-pub record Stands (rows : Place) (s : Stand) (behind : List (List ℕ)) : Type 0 where
+pub record Stands (rows : Place) (s : Stand) (tails : List (List ℕ)) : Type 0 where
   pub holder : Inside rows
   pub fills : passed (many_at (row_at 128) rows) ≡ Ok tt
   pub inside : Inside s.left
   pub room : ℕ
-  pub most : s.depth + room ≡ 128
+  pub most : length tails + room ≡ 128
   pub trees : List (Tree room)
   pub reads : many_at (row_at room) s.left ≡ Ok trees
   pub rest : List Row
-  pub below : Below behind s.depth room (end s.left) rest
-  pub coming : drop s.given (held_rows rows) ≡ all_rows (tree_rows room s.depth) trees ++ rest
+  pub below : Below tails room (end s.left) rest
+  pub coming : drop s.given (held_rows rows) ≡ all_rows (tree_rows room (length tails)) trees ++ rest
   pub operands : list_of (λ r. r.operands) (before (held_rows rows) s.given) ≡ map ident s.operands
   pub marks : list_of (λ r. r.marks) (before (held_rows rows) s.given) ≡ map ident s.marks

@@ -1,5 +1,5 @@
 // The source over the bytes of a T section's content: own parameters, then row 0, then nothing.
-ghost use Rattle.std.specs.Prelude.{◌≡◌, length, Ok};
+ghost use Rattle.std.specs.Prelude.{◌≡◌, [], length, Ok};
 ghost use Rattle.reactive.specs.Rows.{at_place};
 ghost use Rattle.image.specs.Bytes.{see};
 ghost use Rattle.image.specs.Steps.{see_numbers, passed, many_at, row_at};
@@ -10,6 +10,7 @@ ghost use Rattle.image_source.specs.Sources.{image_reading};
 use crate::row::row_head;
 use crate::standing::Standing;
 pub use crate::state::ImageSource;
+use arrayvec::ArrayVec;
 use hir::ids::IdentifierId;
 use hir::span::MOST_OPEN;
 use image::cursor::Cursor;
@@ -53,31 +54,25 @@ impl<'a> ImageSource<'a> {
         ImageSource {
             rows,
             at: Standing::new(rows),
-            behind: [rows.rest; MOST_OPEN],
+            behind: ArrayVec::new(),
         }
     }
 
     // Closes the rows that are read to their end, each of them once: how many these are is known only on the way.
     fn close_ended(&mut self)
         ensures same { image_reading self.new ≡ image_reading self.old }
-        ensures closed { length self.new.at.left.rest.now ≡ 0 → self.new.at.depth ≡ 0 }
+        ensures closed { length self.new.at.left.rest.now ≡ 0 → self.new.behind.items ≡ [] }
     {
-        let at = self.at;
-        let mut rest = at.left.rest;
-        let mut depth = at.depth;
-        while rest.is_empty() && depth > 0 {
-            depth -= 1;
-            rest = self.behind[depth as usize];
-        }
-        // What follows a row begins at the byte where the row ends.
-        self.at = Standing {
-            left: Cursor {
+        while self.at.left.is_empty() {
+            let Some(rest) = self.behind.pop() else {
+                break;
+            };
+            // What follows a row begins at the byte where the row ends.
+            self.at.left = Cursor {
                 rest,
-                at: at.left.at,
-            },
-            depth,
-            ..at
-        };
+                at: self.at.left.at,
+            };
+        }
     }
 }
 
@@ -87,25 +82,24 @@ impl<'a> TreeSource for ImageSource<'a> {
     #[tactic(auto, using(crate::proofs::Keeps::restarts))]
     fn rewind(&mut self) {
         self.at = Standing::new(self.rows);
+        self.behind.clear();
     }
 
-    #[tactic(auto, using(crate::proofs::Keeps::low))]
     fn next(&mut self) -> Option<RowHead> {
         self.close_ended();
-        let at = self.at;
         // The check has read every row, so that only an empty holder fails here.
-        let Ok((fields, children, after)) = at.left.read_head() else {
+        let Ok((fields, children, after)) = self.at.left.read_head() else {
             return None;
         };
-        self.behind[at.depth as usize] = after.rest;
+        let depth = self.behind.len() as u32;
+        self.behind.push(after.rest);
         self.at = Standing {
             left: children,
-            depth: at.depth + 1,
-            given: at.given + 1,
+            given: self.at.given + 1,
             operands: fields.operands,
             marks: fields.marks,
         };
-        Some(row_head(at.depth, fields))
+        Some(row_head(depth, fields))
     }
 
     fn operand(&self, i: usize) -> Option<IdentifierId> {

@@ -6,11 +6,10 @@ ghost use Rattle.image_source.specs.Standings.{see_standing, starting};
 use image::cursor::Cursor;
 use image::fields::Numbers;
 
-// What is left of the innermost open row, the depth there, how many rows were given, and the lists of the last.
+// What is left of the innermost open row, how many rows were given, and the lists of the last.
 #[derive(Clone, Copy)]
 pub struct Standing<'a> {
     pub left: Cursor<'a>,
-    pub depth: u32,
     pub given: usize,
     pub operands: Numbers<'a>,
     pub marks: Numbers<'a>,
@@ -23,7 +22,6 @@ impl<'a> Standing<'a> {
     {
         Standing {
             left: rows,
-            depth: 0,
             given: 0,
             operands: Numbers::none(),
             marks: Numbers::none(),

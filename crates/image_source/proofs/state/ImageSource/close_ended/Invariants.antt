@@ -1,10 +1,9 @@
-use Rattle.std.proofs.Common.{◌≤◌, map}
-use Rattle.image.specs.Bytes.{see}
-use Rattle.image_source.specs.Standings.{Stands, see_standing, closed_to}
+use Rattle.std.proofs.Common.{◌≡◌, length}
+use Rattle.image_source.specs.Sources.{image_reading}
 use Rattle.image_source.proofs.state.ImageSource.close_ended.Given as goal
 
-abbrev pub invariant-loop-rest : goal.invariant-loop-rest
-invariant-loop-rest l = (l.depth ≤ 128) × ∥ Stands (see l.self.rows) (closed_to (see_standing l.at) l.rest l.depth) (map (λ x. x.now) l.self.behind) ∥₁
+abbrev pub invariant-loop-self : goal.invariant-loop-self
+invariant-loop-self l = image_reading l.self ≡ image_reading l.initial.self
 
-abbrev pub decreases-loop-rest : goal.decreases-loop-rest
-decreases-loop-rest l = l.depth
+abbrev pub decreases-loop-self : goal.decreases-loop-self
+decreases-loop-self l = length l.self.behind.items
