@@ -19,6 +19,7 @@ use Rattle.hir.specs.Scratches.{Notes}
 use Rattle.hir.specs.Spans.{part, ident, function, identifiers_in, functions_in}
 use Rattle.reactive.specs.declared.row.Number.{Number}
 use Rattle.reactive.specs.declared.row.Number.TheVariants as numbers
+use Rattle.reactive.specs.Codes.{has_scope}
 use Rattle.reactive.specs.Rows.{Row, head}
 use Rattle.checks.specs.Tables as tables
 use Rattle.checks.specs.Rows as rows
@@ -115,7 +116,7 @@ module _ (z : Sizes) (c kind : ℕ) where
   scope_fits None e s is = absurd (let z : ◌≡◌ {A = ℕ} 0 1 = cc in omega arith)
   scope_fits (Some (numbers.Scope t)) e s is =
       let same : t ≡ s = cc in
-      let h = or_parts (not (rows.needs_scope c)) (leb z.scopes t.0) e in
+      let h = or_parts (not (has_scope c)) (leb z.scopes t.0) e in
       subst (λ (k : ScopeId). k.0 < z.scopes) same (leb-false z.scopes t.0 h.1)
   scope_fits (Some (numbers.Function f)) e s is = absurd (let z : ◌≡◌ {A = ℕ} 0 1 = cc in omega arith)
 
@@ -127,13 +128,13 @@ module _ (z : Sizes) (c kind : ℕ) where
       let h = or_parts (not (rows.needs_function c kind)) (leb z.functions g.0) e in
       subst (λ (k : FunctionId). k.0 < z.functions) same (leb-false z.functions g.0 h.1)
 
-  scope_there : (o : Option Number) → rows.wrong_number z c kind o ≡ false → rows.needs_scope c ≡ true → (s : ScopeId) × (o ≡ Some (numbers.Scope s))
-  scope_there None e needs = absurd (both_ways (rows.needs_scope c) (or_parts (rows.needs_scope c) (rows.needs_function c kind) e).0 needs)
+  scope_there : (o : Option Number) → rows.wrong_number z c kind o ≡ false → has_scope c ≡ true → (s : ScopeId) × (o ≡ Some (numbers.Scope s))
+  scope_there None e needs = absurd (both_ways (has_scope c) (or_parts (has_scope c) (rows.needs_function c kind) e).0 needs)
   scope_there (Some (numbers.Scope s)) e needs = (s, refl)
   scope_there (Some (numbers.Function f)) e needs =
       let h = or_parts (not (rows.needs_function c kind)) (leb z.functions f.0) e in
       let leaf = eqb-true c 5 (and_parts (eqb c 5) (eqb kind 17 || eqb kind 30) (not-false (rows.needs_function c kind) h.0)).0 in
-      absurd (both_ways (rows.needs_scope c) (ap rows.needs_scope leaf) needs)
+      absurd (both_ways (has_scope c) (ap has_scope leaf) needs)
 
 present_none : (n : ℕ) (is : List IdentifierId) → rows.absent_in n is ≡ false → Present n is
 present_none n is e = each_none (λ i. leb n i.0) (λ i. i.0 < n) (λ i h. leb-false n i.0 h) is e

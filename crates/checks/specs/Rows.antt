@@ -11,6 +11,7 @@ use Rattle.hir.specs.Scratches.{Notes}
 use Rattle.reactive.specs.declared.row.Number.{Number}
 use Rattle.reactive.specs.declared.row.Number.TheVariants as numbers
 use Rattle.reactive.specs.declared.row.RowHead.{RowHead}
+use Rattle.reactive.specs.Codes.{has_scope}
 use Rattle.reactive.specs.Rows.{Row, head}
 use Rattle.checks.specs.declared.grammar.Slot.{Slot}
 use Rattle.checks.specs.declared.sizes.Sizes as own
@@ -74,16 +75,13 @@ abbrev pub wrong_identifier : ℕ → ℕ → Option IdentifierId → Bool
 wrong_identifier n c None = needs_identifier c
 wrong_identifier n c (Some i) = not (needs_identifier c || may_have_identifier c) || nat_le n i.0
 
-abbrev pub needs_scope : ℕ → Bool
-needs_scope c = c == 3 || c == 4
-
 -- a Leaf that is a function expression or an object method
 abbrev pub needs_function : ℕ → ℕ → Bool
 needs_function c kind = c == 5 && (kind == 17 || kind == 30)
 
 abbrev pub wrong_number : Sizes → ℕ → ℕ → Option Number → Bool
-wrong_number z c kind None = needs_scope c || needs_function c kind
-wrong_number z c kind (Some (numbers.Scope s)) = not (needs_scope c) || nat_le z.scopes s.0
+wrong_number z c kind None = has_scope c || needs_function c kind
+wrong_number z c kind (Some (numbers.Scope s)) = not (has_scope c) || nat_le z.scopes s.0
 wrong_number z c kind (Some (numbers.Function f)) = not (needs_function c kind) || nat_le z.functions f.0
 
 -- a mode above 7, or one where the kind has none

@@ -11,8 +11,9 @@ use Rattle.hir.specs.Lists.{Each}
 use Rattle.hir.specs.Scratches.{Notes}
 use Rattle.hir.specs.Spans.{identifiers_in, functions_in}
 use Rattle.reactive.specs.declared.row.Number.TheVariants as numbers
+use Rattle.reactive.specs.Codes.{has_scope}
 use Rattle.reactive.specs.Rows.{Row}
-use Rattle.checks.specs.Rows.{Sizes, needs_scope}
+use Rattle.checks.specs.Rows.{Sizes}
 
 -- each of these identifiers is below the count
 abbrev pub Present : ℕ → List IdentifierId → Type 0
@@ -51,6 +52,6 @@ pub record SoundRow (z : Sizes) (r : Row) : Type 0 where
   pub identifier : (i : IdentifierId) → r.identifier ≡ Some i → i.0 < z.identifiers
   pub scope : (s : ScopeId) → r.number ≡ Some (numbers.Scope s) → s.0 < z.scopes
   pub function : (f : FunctionId) → r.number ≡ Some (numbers.Function f) → f.0 < z.functions
-  pub scoped : needs_scope r.code ≡ true → (s : ScopeId) × (r.number ≡ Some (numbers.Scope s))
+  pub scoped : has_scope r.code ≡ true → (s : ScopeId) × (r.number ≡ Some (numbers.Scope s))
   pub operands : Present z.identifiers r.operands
   pub marks : Present z.identifiers r.marks

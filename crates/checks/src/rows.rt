@@ -73,7 +73,7 @@ pub fn check_rows<S: TreeSource>(
     ensures source { S.TreeSource.reading source.new ≡ rewound (S.TreeSource.reading source.old) }
 {
     source.rewind();
-    let checked = check_all(source, Sizes::of(env));
+    let checked = check_all(source, Sizes::from(env));
     source.rewind();
     if checked? > scratch.trail.len() {
         return Err(Refusal::Scratch);

@@ -13,11 +13,11 @@ pub struct Sizes {
     pub functions: usize,
 }
 
-impl Sizes {
-    // The sizes of these tables.
-    pub fn of(env: &Environment) -> Sizes
-        ensures { result ≡ sizes (model env.now) }
-    {
+// The sizes of these tables.
+impl<'a, 'b> From<&'a Environment<'b>> for Sizes {
+    ghost from_gives = { λ env r. r ≡ sizes (model env.now) };
+
+    fn from(env: &'a Environment<'b>) -> Sizes {
         Sizes {
             identifiers: env.identifiers.len(),
             scopes: env.scopes.len(),

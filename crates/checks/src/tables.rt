@@ -27,6 +27,7 @@ fn long_list(list: Span) -> bool
 }
 
 // Whether a list of the scope is too long.
+// Beside `bad_scope`, which asks more of each list: a chain over an array of the three is no plainer.
 fn long_scope(scope: Scope) -> bool
     ensures { result ≡ long_scope scope }
 {
@@ -41,6 +42,7 @@ fn long_function(function: Function) -> bool
 }
 
 // Whether a list of some scope is too long.
+// Each such test is a function of its own: of the callers with the chains written out the search found no proof.
 fn some_long_scope(scopes: &[Scope]) -> bool
     ensures { result ≡ list_any long_scope scopes.now }
 {
@@ -96,53 +98,54 @@ fn some_absent(count: usize, numbers: &[u32]) -> bool
 }
 
 // Whether a list leaves the pool, or has a number that is not below the count.
-fn bad_list(count: usize, pool: &[u32], list: Span) -> bool
-    ensures { result ≡ bad_list count pool.now list }
+fn bad_list(env: &Environment, count: usize, list: Span) -> bool
+    ensures { result ≡ bad_list count (model env.now).pool list }
 {
-    list.start as usize + list.count as usize > pool.len() || some_absent(count, list.of(pool))
+    list.start as usize + list.count as usize > env.pool.len()
+        || some_absent(count, list.of(env.pool))
 }
 
 // Whether a list of the scope is bad.
-fn bad_scope(count: usize, pool: &[u32], scope: Scope) -> bool
-    ensures { result ≡ bad_scope count pool.now scope }
+fn bad_scope(env: &Environment, scope: Scope) -> bool
+    ensures { result ≡ bad_scope (length (model env.now).identifiers) (model env.now).pool scope }
 {
-    bad_list(count, pool, scope.dependencies)
-        || bad_list(count, pool, scope.declarations)
-        || bad_list(count, pool, scope.reassignments)
+    let count = env.identifiers.len();
+    bad_list(env, count, scope.dependencies)
+        || bad_list(env, count, scope.declarations)
+        || bad_list(env, count, scope.reassignments)
 }
 
 // Whether a list of the function is bad: its nested functions are counted apart.
-fn bad_function(count: usize, functions: usize, pool: &[u32], function: Function) -> bool
-    ensures { result ≡ bad_function count functions pool.now function }
+fn bad_function(env: &Environment, function: Function) -> bool
+    ensures { result ≡ bad_function (length (model env.now).identifiers) (length (model env.now).functions) (model env.now).pool function }
 {
-    bad_list(count, pool, function.parameters) || bad_list(functions, pool, function.nested)
+    bad_list(env, env.identifiers.len(), function.parameters)
+        || bad_list(env, env.functions.len(), function.nested)
 }
 
 // Whether a list of some scope is bad.
-fn some_bad_scope(count: usize, pool: &[u32], scopes: &[Scope]) -> bool
-    ensures { result ≡ list_any (bad_scope count pool.now) scopes.now }
+fn some_bad_scope(env: &Environment) -> bool
+    ensures { result ≡ list_any (bad_scope (length (model env.now).identifiers) (model env.now).pool) (model env.now).scopes }
 {
-    scopes.iter().any(|scope| bad_scope(count, pool, *scope))
+    env.scopes.iter().any(|scope| bad_scope(env, *scope))
 }
 
 // Whether a list of some function is bad.
-fn some_bad_function(count: usize, pool: &[u32], functions: &[Function]) -> bool
-    ensures { result ≡ list_any (bad_function count (length functions.now) pool.now) functions.now }
+fn some_bad_function(env: &Environment) -> bool
+    ensures { result ≡ list_any (bad_function (length (model env.now).identifiers) (length (model env.now).functions) (model env.now).pool) (model env.now).functions }
 {
-    let nested = functions.len();
-    functions
+    env.functions
         .iter()
-        .any(|function| bad_function(count, nested, pool, *function))
+        .any(|function| bad_function(env, *function))
 }
 
 // Whether a list of a scope, of a function or of the own parameters is bad.
 fn bad_lists(env: &Environment, parameters: Span) -> bool
     ensures { result ≡ bad_lists (model env.now) parameters }
 {
-    let count = env.identifiers.len();
-    some_bad_scope(count, env.pool, env.scopes)
-        || some_bad_function(count, env.pool, env.functions)
-        || bad_list(count, env.pool, parameters)
+    some_bad_scope(env)
+        || some_bad_function(env)
+        || bad_list(env, env.identifiers.len(), parameters)
 }
 
 // How many identifiers have no name.

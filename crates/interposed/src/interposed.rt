@@ -100,21 +100,21 @@ impl PromoteInterposed {
     }
 
     // What the kind does after its uses: the barrier, and then the tracking of the lvalue.
-    fn end_leaf(
+    fn end_leaf<S: TreeSource>(
         &mut self,
         env: &Environment,
         scratch: &mut Scratch,
         lvalue: Option<IdentifierId>,
-        kind: u8,
-        mode: u8,
+        row: &GivenRow<S>,
     )
-        requires { Ready (whole self.old (tables env.now scratch.old)) (end_acts kind mode lvalue) }
-        ensures { whole self.new (tables env.now scratch.new) ≡ fold does (whole self.old (tables env.now scratch.old)) (end_acts kind mode lvalue) }
+        requires { Ready (whole self.old (tables env.now scratch.old)) (end_acts row.now.kind row.now.mode lvalue) }
+        ensures { whole self.new (tables env.now scratch.new) ≡ fold does (whole self.old (tables env.now scratch.old)) (end_acts row.now.kind row.now.mode lvalue) }
     {
-        if may_raise(kind, mode) {
+        let head = row.head();
+        if may_raise(head.kind, head.mode) {
             self.raise(env, scratch, lvalue);
         }
-        if is_barrier(kind) {
+        if is_barrier(head.kind) {
             if let Some(l) = lvalue {
                 self.track(env, scratch, l);
             }
@@ -132,11 +132,10 @@ impl PromoteInterposed {
         requires { Ready (whole self.old (tables env.old scratch.old)) (leaf_acts lvalue row.now.kind row.now.mode row.now.marks row.now.operands) }
         ensures { whole self.new (tables env.new scratch.new) ≡ fold does (whole self.old (tables env.old scratch.old)) (leaf_acts lvalue row.now.kind row.now.mode row.now.marks row.now.operands) }
     {
-        let head = row.head();
         self.begin_leaf(env, scratch, row);
         self.load_value(env, scratch, lvalue, row);
         self.use_operands(env, scratch, row);
-        self.end_leaf(env, scratch, lvalue, head.kind, head.mode);
+        self.end_leaf(env, scratch, lvalue, row);
     }
 }
 

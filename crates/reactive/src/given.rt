@@ -7,6 +7,7 @@ use crate::row::RowHead;
 use crate::source::TreeSource;
 use hir::ids::IdentifierId;
 use std::marker::Model;
+use std::ops::Range;
 
 // One of the two lists of a row.
 #[derive(Clone, Copy)]
@@ -72,8 +73,7 @@ impl<'a, S: TreeSource> GivenRow<'a, S> {
         Identifiers {
             source: self.source,
             list,
-            at: 0,
-            end,
+            places: 0..end,
         }
     }
 
@@ -97,8 +97,7 @@ impl<'a, S: TreeSource> GivenRow<'a, S> {
 pub struct Identifiers<'a, S: TreeSource> {
     source: &'a S,
     list: RowList,
-    at: usize,
-    end: usize,
+    places: Range<usize>,
 }
 
 impl<'a, S: TreeSource> Model for Identifiers<'a, S> {
@@ -109,9 +108,9 @@ impl<'a, S: TreeSource> Model for Identifiers<'a, S> {
 
     ghost Value = { List IdentifierId };
 
-    ghost view = { λ i. drop i.at (list_of i.list (last_row (S.TreeSource.reading i.source.now))) };
+    ghost view = { λ i. drop i.places.start (list_of i.list (last_row (S.TreeSource.reading i.source.now))) };
 
-    ghost invariant = { λ i. Lists (S.TreeSource.reading i.source.now) i.list i.end };
+    ghost invariant = { λ i. Lists (S.TreeSource.reading i.source.now) i.list i.places.end };
 }
 
 impl<'a, S: TreeSource> Iterator for Identifiers<'a, S> {
@@ -124,11 +123,6 @@ impl<'a, S: TreeSource> Iterator for Identifiers<'a, S> {
     ghost remaining = { item_count (λ ids. ids) };
 
     fn next(&mut self) -> Option<IdentifierId> {
-        if self.at >= self.end {
-            return None;
-        }
-        let id = self.list.item(self.source, self.at);
-        self.at += 1;
-        id
+        self.list.item(self.source, self.places.next()?)
     }
 }

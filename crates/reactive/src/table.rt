@@ -47,6 +47,7 @@ fn identifier_at(pool: &[u32], span: Span, i: usize) -> Option<IdentifierId>
 }
 
 // A table of rows whose lists are spans of a pool, cut at the pool's end.
+// The position is a number and no iterator, since the row before it is asked for, and a rewound source begins again.
 #[derive(Drop)]
 pub struct TableSource<'a> {
     pub rows: &'a [RowEntry],

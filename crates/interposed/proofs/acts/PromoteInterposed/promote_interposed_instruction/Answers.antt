@@ -1,9 +1,3 @@
-use Rattle.std.proofs.Common.{sym, subst}
-use Rattle.hir.specs.Scratches.{tables}
-use Rattle.reactive.specs.declared.row.RowHead.{RowHead}
-use Rattle.walk.specs.Events.{whole}
-use Rattle.interposed.specs.Acts.{Ready}
-use Rattle.interposed.specs.Interposed.{end_acts}
 use Rattle.interposed.proofs.Passes.{ready_begin, ready_value, ready_uses, ready_end}
 use Rattle.interposed.proofs.acts.PromoteInterposed.promote_interposed_instruction.Goals as goal
 
@@ -25,5 +19,4 @@ use_operands-requires g c =
 pub end_leaf-requires : goal.end_leaf-requires
 end_leaf-requires g c =
     let r = c.args.row.now in
-    subst (λ (h : RowHead). Ready (whole c.args.self.now (tables c.use_operands.new.env c.use_operands.new.scratch)) (end_acts h.kind h.mode c.args.lvalue)) (sym c.head-head.ensures)
-    (ready_end c.args.lvalue r.kind r.mode r.marks r.operands _ c.requires _ c.begin_leaf.ensures _ c.load_value.ensures _ c.use_operands.ensures)
+    ready_end c.args.lvalue r.kind r.mode r.marks r.operands _ c.requires _ c.begin_leaf.ensures _ c.load_value.ensures _ c.use_operands.ensures
