@@ -1,95 +1,45 @@
-// Codes and kinds by name.
+// Codes and kinds by the names of their cases.
 use crate::fault::Fault;
 use crate::words::number;
+use hir::unknown::Unknown;
+use reactive::code::Code;
+use reactive::kind::Kind;
+use std::fmt;
+use std::fmt::Write;
 
-static CODES: [&str; 25] = [
-    "Nothing",
-    "Block",
-    "Instruction",
-    "Scope",
-    "Pruned",
-    "Leaf",
-    "Logical",
-    "Conditional",
-    "Sequence",
-    "Optional",
-    "Break",
-    "Continue",
-    "Return",
-    "Throw",
-    "Switch",
-    "Case",
-    "DoWhile",
-    "While",
-    "For",
-    "ForOf",
-    "ForIn",
-    "If",
-    "Label",
-    "Try",
-    "Handler",
-];
+// What is left of a text behind all that was written, which has to be its front.
+#[derive(Drop)]
+struct Unmatched<'a>(&'a str);
 
-static KINDS: [&str; 42] = [
-    "LoadLocal",
-    "LoadContext",
-    "DeclareLocal",
-    "DeclareContext",
-    "StoreLocal",
-    "StoreContext",
-    "Destructure",
-    "Primitive",
-    "JSXText",
-    "BinaryExpression",
-    "NewExpression",
-    "CallExpression",
-    "MethodCall",
-    "UnaryExpression",
-    "TypeCastExpression",
-    "JsxExpression",
-    "ObjectExpression",
-    "ObjectMethod",
-    "ArrayExpression",
-    "JsxFragment",
-    "RegExpLiteral",
-    "MetaProperty",
-    "PropertyStore",
-    "PropertyLoad",
-    "PropertyDelete",
-    "ComputedStore",
-    "ComputedLoad",
-    "ComputedDelete",
-    "LoadGlobal",
-    "StoreGlobal",
-    "FunctionExpression",
-    "TaggedTemplateExpression",
-    "TemplateLiteral",
-    "Await",
-    "GetIterator",
-    "IteratorNext",
-    "NextPropertyOf",
-    "PrefixUpdate",
-    "PostfixUpdate",
-    "Debugger",
-    "StartMemoize",
-    "FinishMemoize",
-];
-
-// The place of a name, or the number that stands for one.
-fn place(names: &[&str], text: &str) -> Result<u8, Fault> {
-    let place = names.iter().position(|name| *name == text);
-    match place.map(u8::try_from) {
-        Some(Ok(place)) => Ok(place),
-        _ => number(text),
+impl<'a> fmt::Write for Unmatched<'a> {
+    fn write_str(&mut self, text: &str) -> fmt::Result {
+        self.0 = self.0.strip_prefix(text).ok_or(fmt::Error)?;
+        Ok(())
     }
+}
+
+// Whether a text is the name of a case.
+fn names<C: fmt::Debug>(text: &str, case: &C) -> bool {
+    let mut left = Unmatched(text);
+    write!(left, "{case:?}").is_ok() && left.0.is_empty()
+}
+
+// The byte whose case has this name, or the number that stands for one.
+fn byte<C: TryFrom<u8, Error = Unknown> + fmt::Debug + Drop>(text: &str) -> Result<u8, Fault> {
+    for byte in 0..=u8::MAX {
+        if C::try_from(byte).is_ok_and(|case| names(text, &case)) {
+            return Ok(byte);
+        }
+    }
+    number(text)
 }
 
 // The code of a row: its name, or any number.
 pub fn code(text: &str) -> Result<u8, Fault> {
-    place(&CODES, text)
+    byte::<Code>(text)
 }
 
 // The kind of a Leaf: its name, or any number.
 pub fn kind(text: &str) -> Result<u8, Fault> {
-    place(&KINDS, text)
+    byte::<Kind>(text)
 }
