@@ -1,8 +1,8 @@
 -- The last digits of a number in a base. Assumes nothing.
-use Rattle.std.specs.Prelude.{◌≡◌, ℕ, zero, suc, ◌+◌, ◌/◌, ◌%◌, ◌^◌, ◌<◌, ◌≤◌, List, [], ◌∷◌, ◌++◌, length, drop, decimal, slice_set, refl}
+use Rattle.std.specs.Prelude.{◌≡◌, ℕ, zero, suc, ◌+◌, ◌/◌, ◌%◌, ◌^◌, ◌*◌, ◌<◌, ◌≤◌, max, List, [], ◌∷◌, ◌++◌, length, drop, decimal, slice_set, refl}
 use Rattle.std.proofs.Common.{sym, ap, ◌∙◌, append_assoc, pow-suc, add-one, arith}
 use Rattle.std.proofs.Math.Nat.{pow-zero}
-use Rattle.std.proofs.lemmas.Fmt.{decimal_digit, decimal_step, length-decimal-le}
+use Rattle.std.proofs.lemmas.Fmt.{decimal_digit, decimal_step}
 use Rattle.std.proofs.lemmas.List.{length_push, drop-set, same_from_push}
 use Rattle.std.proofs.lemmas.Bool.Decides.{nat_tests}
 use Rattle.naming.specs.Texts.{digit_byte, last_digits}
@@ -27,24 +27,31 @@ decimal_digit_byte : (d : ℕ) → d < 10 → digit_byte d ≡ 48 + d
 decimal_digit_byte d h = grind (arith, nat_tests)
 
 -- a number below ten has one decimal digit
-pub decimal_one : (n : ℕ) → n < 10 → last_digits 10 1 n ≡ decimal n
+decimal_one : (n : ℕ) → n < 10 → last_digits 10 1 n ≡ decimal n
 decimal_one n h =
     let same : n % 10 ≡ n = omega arith in
     ap (λ d. digit_byte d ∷ []) same ∙ ap (λ d. d ∷ []) (decimal_digit_byte n h) ∙ sym (decimal_digit n h)
 
 -- any other has one more than its tenth
-pub decimal_more : (count n : ℕ) → 10 ≤ n → n < 65536 → last_digits 10 count (n / 10) ≡ decimal (n / 10) → last_digits 10 (count + 1) n ≡ decimal n
+decimal_more : (count n : ℕ) → 10 ≤ n → n < 65536 → last_digits 10 count (n / 10) ≡ decimal (n / 10) → last_digits 10 (count + 1) n ≡ decimal n
 decimal_more count n h k e =
     ap (λ c. last_digits 10 c n) (add-one count)
     ∙ ap (λ ds. ds ++ (digit_byte (n % 10) ∷ [])) e
     ∙ ap (λ d. decimal (n / 10) ++ (d ∷ [])) (decimal_digit_byte (n % 10) (omega arith))
     ∙ sym (decimal_step n h (omega arith))
 
--- and none has more than five
-pub decimal_few : (count n : ℕ) → n < 65536 → last_digits 10 count n ≡ decimal n → count ≤ 5
-decimal_few count n h e =
-    let few : length (decimal n) ≤ 5 = length-decimal-le 5 n (omega arith) (omega arith) (omega arith) in
-    omega (arith, length_last_digits 10 count n, ap length e)
+some_power : (power : ℕ) → 0 < 10 ^ power
+some_power zero = omega (arith, pow-zero 10)
+some_power (suc power) = omega (arith, pow-suc 10 power, some_power power)
+
+-- a number has one digit more than the highest power of ten that it reaches
+pub decimal_count : (power n : ℕ) → n < 65536 → 10 ^ power ≤ max n 1 → max n 1 < 10 * 10 ^ power → last_digits 10 (power + 1) n ≡ decimal n
+decimal_count zero n h reaches below = decimal_one n (omega (arith, pow-zero 10))
+decimal_count (suc power) n h reaches below =
+    let up = pow-suc 10 power in
+    let some : 0 < 10 ^ power = some_power power in
+    let tenth : last_digits 10 (power + 1) (n / 10) ≡ decimal (n / 10) = decimal_count power (n / 10) (omega arith) (omega arith) (omega arith) in
+    ap (λ c. last_digits 10 (c + 1) n) (sym (add-one power)) ∙ decimal_more (power + 1) n (omega arith) h tenth
 
 same_digit : (c d : ℕ) → c < 16 → d < 16 → digit_byte c ≡ digit_byte d → c ≡ d
 same_digit c d h k e = grind (arith, nat_tests)

@@ -22,14 +22,11 @@ impl Naming for Decimal {
     }
 }
 
-// How many decimal digits the number has, without leading zeros.
+// How many decimal digits the number has, without leading zeros: 0 has one.
+#[tactic(auto, using(crate::specs::LastDigits::decimal_count))]
 fn digit_count(number: u16) -> usize
     ensures all { last_digits 10 result number ≡ decimal number }
     ensures few { result ≤ 5 }
 {
-    if number < 10 {
-        1
-    } else {
-        digit_count(number / 10) + 1
-    }
+    number.max(1).ilog10() as usize + 1
 }

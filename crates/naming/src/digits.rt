@@ -21,9 +21,5 @@ fn digit_byte(digit: u8) -> u8
     requires { digit < 16 }
     ensures { result ≡ digit_byte digit }
 {
-    if digit < 10 {
-        b'0' + digit
-    } else {
-        b'a' + (digit - 10)
-    }
+    b"0123456789abcdef"[digit as usize]
 }
