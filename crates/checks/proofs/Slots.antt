@@ -47,9 +47,6 @@ module _ (slots : List Slot) (c i : ℕ) (inv : follow (drop i slots) c ≡ foll
       pub goes_on : required (get_or slots i d) ≡ false → follow (drop (i + 1) slots) c ≡ follow slots c
       goes_on r = sym (skips ∙ cond-false _ _ _ r)
 
-  pub no_place : length slots ≤ i → None ≡ follow slots c
-  no_place h = sym (at_drop_all (λ xs. follow xs c) slots i h) ∙ inv
-
 -- a code that no row has
 module _ (c : ℕ) (no : 1 ≤ c → 24 < c) where
   admits_none : (s : Sort) → admits s c ≡ false

@@ -70,10 +70,6 @@ noted_used used innermost t i =
 grows_noted : {used : ℕ} {b t : Tables} → Noted used b t → Grows b t
 grows_noted {b = b} n = record { rows = []; named = subst (Named b.env []) (sym n.env) none; work = n.work; marks = ap length n.marks; trail = ap length n.trail }
 
--- one declaration is recorded
-pub grows_recorded : (innermost : Option ℕ) (t : Tables) (i : IdentifierId) → Sound t → Known t.env i → Grows t (recorded_at innermost t i)
-grows_recorded innermost t i s h = grows_noted (noted_recorded (reach innermost) innermost (omega arith) t i)
-
 linked_noted : (v : CollectPromotable) (b t : Tables) → Linked v b.notes → Noted v.used b t → Linked v t.notes
 linked_noted v b t l n =
     record {
@@ -168,25 +164,10 @@ grows_does w (prunes s) = grows_noted (noted_each (reach w.visitor.innermost) w.
 grows_does w (sees i) = grows_noted (noted_used w.visitor.used w.visitor.innermost w.tables i)
 grows_does w (flags i) = grows_noted (noted_noting w.visitor.used as_tag w.tables i (λ h. h _))
 
--- an act leaves the environment
-env_does : (w : Whole CollectPromotable) (a : Act) → (does w a).tables.env ≡ w.tables.env
-env_does w (opens s) = refl
-env_does w shuts = refl
-env_does w (prunes s) = (noted_each (reach w.visitor.innermost) w.visitor.innermost (omega arith) w.tables (declared_in w.tables.env s)).env
-env_does w (sees i) = (noted_used w.visitor.used w.visitor.innermost w.tables i).env
-env_does w (flags i) = refl
-
 grows_over : (w : Whole CollectPromotable) (todo : List Act) → Grows w.tables (fold does w todo).tables
 grows_over w [] = grows_none w.tables
 grows_over w (a ∷ todo) = grows_trans (grows_does w a) (grows_over (does w a) todo)
 
-env_over : (w : Whole CollectPromotable) (todo : List Act) → (fold does w todo).tables.env ≡ w.tables.env
-env_over w [] = refl
-env_over w (a ∷ todo) = env_over (does w a) todo ∙ env_does w a
-
 -- the pass names nothing
 pub grows_collected : (t : Tables) (rs : List Row) → Grows t (collected t rs)
 grows_collected t rs = grows_over (begun t) (pass_acts rs)
-
-pub same_env : (t : Tables) (rs : List Row) → (collected t rs).env ≡ t.env
-same_env t rs = env_over (begun t) (pass_acts rs)

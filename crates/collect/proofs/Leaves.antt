@@ -20,6 +20,3 @@ module _ (r : Row) (w : Whole CollectPromotable) (ready : Ready w (leaf_acts r))
 
     pub ready_tags : Ready v (map flags r.marks)
     ready_tags = ready_onward does Ready splits w v _ _ (subst (Ready w) leaf_acts_begin ready) went
-
-    pub leaf_done : (on : Whole CollectPromotable) → on ≡ fold does v (map flags r.marks) → on ≡ fold does w (leaf_acts r)
-    leaf_done on h = over_onward does Ready splits w v on (map sees r.operands) (map flags r.marks) went h ∙ ap (fold does w) (sym leaf_acts_begin)

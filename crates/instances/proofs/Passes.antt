@@ -67,9 +67,6 @@ module _ (p : Option RowHead) (r : Row) (q : RowHead) (e : q ≡ head r) (is : t
     ready_leaf : Ready t (map again r.operands ++ map parameters (listed (function_in q.number)))
     ready_leaf = subst (Ready t) leaf_acts ready
 
-    pub ready_operands : Ready t (map again r.operands)
-    ready_operands = splits.front t _ _ ready_leaf
-
     module _ (v : Tables) (went : v ≡ fold does t (map again r.operands)) where
       ready_rest : Ready v (map parameters (listed (function_in q.number)))
       ready_rest = ready_onward does Ready splits t v _ _ ready_leaf went

@@ -106,11 +106,6 @@ pub map_map : {A B C : Type 0} (f : B → C) (g : A → B) (xs : List A) → map
 map_map f g [] = refl
 map_map f g (x ∷ xs) = ap (λ ys. f (g x) ∷ ys) (map_map f g xs)
 
--- the acts of a load where the first mark is known
-pub value_mark : (k : ℕ) (l mark : IdentifierId) (o : Option IdentifierId) (ms rest : List IdentifierId) → o ≡ Some l → is_global_load k ≡ false → ms ≡ mark ∷ rest → value_acts k o ms ≡ mark_acts k l mark
-value_mark k l mark o ms rest e ne has =
-    (λ i. value_acts k (e i) (has i)) ∙ cond-false _ _ _ ne
-
 -- a Leaf in its four parts
 module _ (l : Option IdentifierId) (k mode : ℕ) (ms os : List IdentifierId) (w : State) (ready : Ready w (leaf_acts l k mode ms os)) where
   pub ready_begin : Ready w (fix_acts k mode ms)
@@ -139,13 +134,6 @@ module _ (l : Option IdentifierId) (k mode : ℕ) (ms os : List IdentifierId) (w
             over_onward does Ready splits w a d (fix_acts k mode ms) _ ea
             (over_onward does Ready splits a b d (value_acts k l ms) _ eb
             (over_onward does Ready splits b c d (map uses os) (end_acts k mode l) ec ed))
-
--- a Leaf that is not directly under an Instruction
-pub ready_elsewhere : (p : Option RowHead) (q : RowHead) (r : Row) (w : State) → q ≡ head r → true ≡ eqb q.code 5 → None ≡ instruction_in p → Ready w (acts (entering p r)) → Ready w (map uses r.operands)
-ready_elsewhere p q r w e is none_in ready =
-    subst (Ready w)
-    ((λ i. row_acts p (sym e i) r.marks r.operands) ∙ cond-true _ _ _ (sym is) ∙ ap (λ o. under_acts o q.kind q.mode r.marks r.operands) (sym none_in))
-    ready
 
 -- the acts of sound rows speak of what has a row
 module _ (m : Model) where

@@ -17,11 +17,6 @@ pub record Listed (f : Tables → IdentifierId → Tables) (start at : Tables) (
   pub sound : Sound at
   pub known : Each (Known at.env) (map ident (drop i ns))
 
-pub listed_none : (f : Tables → IdentifierId → Tables) (start : Tables) (list : Span) (ns : List ℕ) → ns ≡ part start.env.pool list → Sound start → KnownIn start.env list → Listed f start start ns 0
-listed_none f start list ns e s h =
-    let P : List ℕ → Type 0 = λ xs. Each (Known start.env) (map ident xs) in
-    record { same = refl; sound = s; known = subst P (sym e) h }
-
 module _ (f : Tables → IdentifierId → Tables) (one : (t : Tables) (i : IdentifierId) → Sound t → Known t.env i → Grows t (f t i)) (start at : Tables) (ns : List ℕ) (i : ℕ) (inv : Listed f start at ns i) (low : i < length ns) where
   here : map ident (drop i ns) ≡ ident (get_or ns i 0) ∷ map ident (drop (i + 1) ns)
   here = ap (map ident) (drop_more ns i 0 low)
@@ -42,10 +37,6 @@ module _ (f : Tables → IdentifierId → Tables) (one : (t : Tables) (i : Ident
         sound = sound_grows inv.sound g;
         known = subst P (sym (kept g.named).size) knows.1;
       })
-
-pub listed_all : (f : Tables → IdentifierId → Tables) (start at : Tables) (list : Span) (ns : List ℕ) (i : ℕ) → ns ≡ part start.env.pool list → Listed f start at ns i → length ns ≤ i → at ≡ fold f start (identifiers_in start.env.pool list)
-listed_all f start at list ns i e inv past =
-    sym (ap (λ xs. fold f start (map ident xs)) (sym e) ∙ inv.same ∙ ap (λ xs. fold f at (map ident xs)) (drop_all i ns past))
 
 -- one list after others, all known from the start
 module _ (f : Tables → IdentifierId → Tables) (one : (t : Tables) (i : IdentifierId) → Sound t → Known t.env i → Grows t (f t i)) (b at : Tables) (s : Sound b) (g : Grows b at) (list : Span) (h : KnownIn b.env list) where

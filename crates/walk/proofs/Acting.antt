@@ -45,21 +45,10 @@ module _ {W A : Type 0} (does : W → A → W) (Ready : W → List A → Type 0)
     pub doing_ready : Ready at (f x ∷ map f more)
     doing_ready = let P : List X → Type 0 = λ ys. Ready at (map f ys) in subst P here inv.ready
 
-    -- what one act alone needs
-    pub doing_one : Ready at (f x ∷ [])
-    doing_one = splits.front at (f x ∷ []) _ doing_ready
-
     pub doing_more : (on : W) → on ≡ does at (f x) → Doing f start on xs more
     doing_more on e =
         let P : W → Type 0 = λ w. Doing f start w xs more in
         subst P (sym e) (record { same = inv.same ∙ ap (λ ys. fold does at (map f ys)) here; ready = splits.back at (f x) _ doing_ready })
-
-  pub doing_all : {X : Type 0} (f : X → A) (start at : W) (xs rest : List X) → Doing f start at xs rest → rest ≡ [] → at ≡ fold does start (map f xs)
-  doing_all f start at xs rest inv past = sym (inv.same ∙ ap (λ ys. fold does at (map f ys)) past)
-
--- the element of a slice at a place, and those after it
-pub slice_here : {X : Type 0} (xs : List X) (i : ℕ) (d : X) → i < length xs → drop i xs ≡ get_or xs i d ∷ drop (i + 1) xs
-slice_here xs i d h = drop_more xs i d h
 
 -- a pass whose visitor stays as it is
 module _ {V A : Type 0} (does : Tables → A → Tables) (Ready : Tables → List A → Type 0) (splits : Splits does Ready) (acts : Event → List A) where

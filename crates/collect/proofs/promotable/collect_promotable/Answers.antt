@@ -7,17 +7,12 @@ use Rattle.collect.specs.Promotable.{does, acts, Ready, begun}
 use Rattle.collect.proofs.Keeping.{splits}
 use Rattle.collect.proofs.promotable.collect_promotable.Goals as goal
 
-pub walk-requires : goal.walk-requires
-walk-requires g c =
+pub walk-requires-clause-allowed : goal.walk-requires-clause-allowed
+walk-requires-clause-allowed g c =
     let rows = (g.S.TreeSource.reading c.args.source.now).rows in
-    let start = begun (tables c.args.env.now c.args.scratch.now) in
-    record { shallow = c.requires.shallow; allowed = acting_allowed does Ready splits acts (events [] rows) start c.requires.ready }
+    acting_allowed does Ready splits acts (events [] rows) (begun (tables c.args.env.now c.args.scratch.now)) c.requires.ready
 
-pub returns : goal.returns
-returns g c =
+pub returns-clause-after : goal.returns-clause-after
+returns-clause-after g c =
     let rows = (g.S.TreeSource.reading c.args.source.now).rows in
-    let start = begun (tables c.args.env.now c.args.scratch.now) in
-    record {
-      after = ap (λ (w : Whole CollectPromotable). w.tables) (c.walk.ensures.after ∙ acting_over does Ready splits acts (events [] rows) start);
-      source = c.walk.ensures.source;
-    }
+    ap (λ (w : Whole CollectPromotable). w.tables) (c.walk.ensures.after ∙ acting_over does Ready splits acts (events [] rows) (begun (tables c.args.env.now c.args.scratch.now)))
