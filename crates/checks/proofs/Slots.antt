@@ -2,7 +2,7 @@
 use Rattle.std.proofs.Common.{◌≡◌, ℕ, ◌+◌, ◌-◌, ◌<◌, ◌≤◌, true, false, cond, eqb, ◌||◌, List, [], ◌∷◌, length, get_or, take, drop, Some, None, refl, sym, ap, arith, ◌∙◌}
 use Rattle.std.proofs.lemmas.Bool.{cond-true, cond-false, cond_both}
 use Rattle.std.specs.List.{list_any}
-use Rattle.std.proofs.lemmas.List.{at_drop_more, at_drop_all, drop_more, take_rest}
+use Rattle.std.proofs.lemmas.List.{at_drop_more, drop_more, take_rest}
 use Rattle.checks.specs.declared.grammar.Sort.{Sort}
 use Rattle.checks.specs.declared.grammar.Sort.TheVariants as sorts
 use Rattle.checks.specs.declared.grammar.Slot.{Slot}

@@ -1,9 +1,8 @@
 -- The way along a link. Assumes nothing.
-use Rattle.std.proofs.Common.{◌≡◌, ℕ, zero, suc, ◌-◌, ◌<◌, ◌≤◌, Bool, true, false, ◌||◌, eqb, List, [], ◌∷◌, Some, None, Option, length, sym, refl, ap, ◌∙◌, arith}
-use Rattle.std.proofs.lemmas.Bool.{eq-eqb, ne_eqb}
+use Rattle.std.proofs.Common.{◌≡◌, ℕ, ◌≤◌, Bool, eqb, List, Option}
 use Rattle.hir.specs.declared.scratch.Trail.{Trail}
 use Rattle.std.specs.List.{list_any}
-use Rattle.collect.specs.Links.{trail_of, reach, along, is_along, Leads}
+use Rattle.collect.specs.Links.{reach, along, is_along}
 
 -- a scope is among the first along a link
 abbrev pub is_first : ℕ → List Trail → Option ℕ → ℕ → Bool

@@ -9,7 +9,6 @@ use Rattle.hir.specs.Environments.{Model}
 use Rattle.hir.specs.Lists.{Each}
 use Rattle.std.specs.List.{fold}
 use Rattle.hir.specs.Scratches.{Notes, Tables, work_of, no_work, no_trail}
-use Rattle.hir.specs.Sound.{Sound, Known}
 use Rattle.reactive.specs.Rows.{Row}
 use Rattle.walk.specs.Events.{Whole, whole}
 use Rattle.walk.proofs.Acting.{Splits}

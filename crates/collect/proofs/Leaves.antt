@@ -1,10 +1,10 @@
 -- A Leaf: the uses of its operands, and then its tags. Assumes nothing.
-use Rattle.std.proofs.Common.{◌≡◌, true, ◌==◌, ◌++◌, map, sym, ap, ◌∙◌, subst}
+use Rattle.std.proofs.Common.{◌≡◌, true, ◌==◌, ◌++◌, map, ap, subst}
 use Rattle.std.proofs.lemmas.Bool.{cond-true}
 use Rattle.std.specs.List.{fold}
 use Rattle.reactive.specs.Rows.{Row}
 use Rattle.walk.specs.Events.{Whole}
-use Rattle.walk.proofs.Acting.{ready_onward, over_onward}
+use Rattle.walk.proofs.Acting.{ready_onward}
 use Rattle.collect.specs.declared.promotable.CollectPromotable.{CollectPromotable}
 use Rattle.collect.specs.Promotable.{sees, flags, does, leaf_acts, Ready}
 use Rattle.collect.proofs.Keeping.{splits}

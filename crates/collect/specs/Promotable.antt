@@ -8,7 +8,7 @@ use Rattle.hir.specs.Environments.{Model, declaration_of, scope_of}
 use Rattle.hir.specs.Lists.{Each}
 use Rattle.std.specs.List.{fold}
 use Rattle.hir.specs.Scratches.{Notes, Tables, both, work_of}
-use Rattle.hir.specs.Sound.{Sound, Known}
+use Rattle.hir.specs.Sound.{Sound, Known, KnownScope}
 use Rattle.hir.specs.Spans.{identifiers_in}
 use Rattle.reactive.specs.declared.code.Code.TheVariants as codes
 use Rattle.reactive.specs.Codes.{code_number, used_in, listed}
@@ -120,7 +120,7 @@ pass_acts rs = acts_of acts (events [] rs)
 abbrev pub Fits : Model → Act → Type 0
 Fits m (opens s) = Unit {0}
 Fits m shuts = Unit {0}
-Fits m (prunes s) = s.0 < length m.scopes
+Fits m (prunes s) = KnownScope m s
 Fits m (sees i) = Known m i
 Fits m (flags i) = Known m i
 

@@ -1,5 +1,5 @@
 -- The last pass on the tables: its acts and what each does. Assumes nothing.
-use Rattle.std.specs.Prelude.{ℕ, ◌<◌, cond, ◌&&◌, List, [], ◌++◌, map, length, Option, ◌==◌}
+use Rattle.std.specs.Prelude.{ℕ, cond, ◌&&◌, List, [], ◌++◌, map, Option, ◌==◌}
 use Rattle.hir.specs.declared.ids.FunctionId.{FunctionId}
 use Rattle.hir.specs.declared.ids.IdentifierId.{IdentifierId}
 use Rattle.hir.specs.declared.ids.ScopeId.{ScopeId}
@@ -8,7 +8,7 @@ use Rattle.hir.specs.declared.tables.Reason.TheVariants as reasons
 use Rattle.hir.specs.Environments.{Model, declaration_of, scope_of, function_of}
 use Rattle.std.specs.List.{fold}
 use Rattle.hir.specs.Scratches.{Tables, work_of}
-use Rattle.hir.specs.Sound.{Known, KnownFunction}
+use Rattle.hir.specs.Sound.{Known, KnownFunction, KnownScope}
 use Rattle.hir.specs.Spans.{identifiers_in}
 use Rattle.reactive.specs.declared.code.Code.TheVariants as codes
 use Rattle.reactive.specs.declared.row.Number.{Number}
@@ -55,7 +55,7 @@ pass_acts rs = acts_of acts (events [] rs)
 abbrev pub Fits : Model → Act → Type 0
 Fits m (again i) = Known m i
 Fits m (parameters f) = KnownFunction m f
-Fits m (leaves s) = s.0 < length m.scopes
+Fits m (leaves s) = KnownScope m s
 
 abbrev pub Ready : Tables → List Act → Type 0
 Ready = growth.Ready Fits

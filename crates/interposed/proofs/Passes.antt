@@ -1,5 +1,5 @@
 -- What the third pass keeps. Assumes nothing.
-use Rattle.std.proofs.Common.{◌≡◌, ℕ, ◌+◌, ◌≤◌, Bool, true, false, cond, eqb, leb, List, [], ◌∷◌, ◌++◌, map, length, Some, None, Option, sym, refl, ap, ◌∙◌, subst, ⊎_elim, arith, length-set}
+use Rattle.std.proofs.Common.{◌≡◌, ℕ, ◌+◌, ◌≤◌, Bool, cond, eqb, leb, List, [], ◌∷◌, ◌++◌, map, length, Some, None, Option, sym, refl, ap, ◌∙◌, ⊎_elim, arith, length-set}
 use Rattle.std.proofs.lemmas.Bool.{and_parts, cases_Bool, cond_both, cond-true, cond-false}
 use Rattle.hir.specs.declared.ids.IdentifierId.{IdentifierId}
 use Rattle.hir.specs.declared.scratch.Work.{Work}
@@ -18,7 +18,7 @@ use Rattle.walk.proofs.Acting.{Splits, ready_onward, over_onward}
 use Rattle.promote.specs.Growth.{Grows, none}
 use Rattle.promote.proofs.Growing.{Kept, kept, grows_none, grows_trans, grows_if, sound_grows}
 use Rattle.walk.proofs.Fitting.{Within, each_acts, each_append, each_cond, each_front, each_map, each_listed}
-use Rattle.interposed.specs.Interposed.{fix_acts, mark_acts, marks_acts, value_acts, end_acts, leaf_acts, instruction_in, under_acts, row_acts, acts, begun, pass_acts}
+use Rattle.interposed.specs.Interposed.{fix_acts, marks_acts, value_acts, end_acts, leaf_acts, instruction_in, under_acts, acts, begun, pass_acts}
 use Rattle.interposed.specs.Kinds.{is_load, is_property_load, is_global_load, is_barrier, fixes_marks, may_raise}
 use Rattle.interposed.specs.Acts.{State, Act, uses, fixes, loads, takes, global, barrier, tracks, epoch, noting, nameless, found, raised, does, KnownIf, Fits, barriers, Ready}
 

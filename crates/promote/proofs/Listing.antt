@@ -1,13 +1,13 @@
 -- A step for each identifier of a list of the pool. Assumes nothing.
-use Rattle.std.proofs.Common.{◌≡◌, ℕ, ◌+◌, ◌<◌, ◌≤◌, List, ◌∷◌, map, length, get_or, drop, sym, refl, ap, ◌∙◌, subst}
-use Rattle.std.proofs.lemmas.List.{drop_all, drop_more}
+use Rattle.std.proofs.Common.{◌≡◌, ℕ, ◌+◌, ◌<◌, List, ◌∷◌, map, length, get_or, drop, sym, ap, ◌∙◌, subst}
+use Rattle.std.proofs.lemmas.List.{drop_more}
 use Rattle.hir.specs.declared.ids.IdentifierId.{IdentifierId}
 use Rattle.hir.specs.declared.span.Span.{Span}
 use Rattle.hir.specs.Lists.{Each}
 use Rattle.std.specs.List.{fold}
 use Rattle.hir.specs.Scratches.{Tables}
 use Rattle.hir.specs.Sound.{Sound, Known, KnownIn}
-use Rattle.hir.specs.Spans.{ident, part, identifiers_in}
+use Rattle.hir.specs.Spans.{ident, identifiers_in}
 use Rattle.promote.specs.Growth.{Grows}
 use Rattle.promote.proofs.Growing.{grows_trans, grows_each, kept, known_in_kept, sound_grows}
 

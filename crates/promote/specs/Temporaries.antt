@@ -1,5 +1,5 @@
 -- The second pass on the tables: its acts and what each does. Assumes nothing.
-use Rattle.std.specs.Prelude.{ℕ, zero, suc, ◌+◌, ◌<◌, Bool, true, false, cond, ◌&&◌, List, [], ◌∷◌, length, take, Some, None, Option, ◌==◌, slice_index_or, slice_set}
+use Rattle.std.specs.Prelude.{ℕ, zero, suc, ◌+◌, Bool, true, false, cond, ◌&&◌, List, [], ◌∷◌, length, take, Some, None, Option, ◌==◌, slice_index_or, slice_set}
 use Rattle.hir.specs.declared.ids.FunctionId.{FunctionId}
 use Rattle.hir.specs.declared.ids.IdentifierId.{IdentifierId}
 use Rattle.hir.specs.declared.ids.ScopeId.{ScopeId}
@@ -8,7 +8,7 @@ use Rattle.hir.specs.declared.tables.Reason.TheVariants as reasons
 use Rattle.hir.specs.Environments.{Model, declaration_of, scope_of, function_of}
 use Rattle.std.specs.List.{fold}
 use Rattle.hir.specs.Scratches.{Tables, both, work_of}
-use Rattle.hir.specs.Sound.{KnownFunction}
+use Rattle.hir.specs.Sound.{KnownFunction, KnownScope}
 use Rattle.hir.specs.Spans.{identifiers_in, functions_in}
 use Rattle.reactive.specs.declared.code.Code.TheVariants as codes
 use Rattle.reactive.specs.declared.row.Number.{Number}
@@ -80,8 +80,8 @@ pass_acts rs = acts_of acts (events [] rs)
 
 -- an act speaks of a scope or a function that has a row
 abbrev pub Fits : Model → Act → Type 0
-Fits m (scope s) = s.0 < length m.scopes
-Fits m (pruned s) = s.0 < length m.scopes
+Fits m (scope s) = KnownScope m s
+Fits m (pruned s) = KnownScope m s
 Fits m (inner f) = KnownFunction m f
 
 abbrev pub Ready : Tables → List Act → Type 0

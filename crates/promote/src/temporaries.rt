@@ -3,7 +3,7 @@ ghost use Rattle.hir.specs.Environments.{model};
 ghost use Rattle.hir.specs.Lists.{Each};
 ghost use Rattle.std.specs.List.{fold};
 ghost use Rattle.hir.specs.Scratches.{tables};
-ghost use Rattle.hir.specs.Sound.{Sound, Known, KnownIn, KnownFunction};
+ghost use Rattle.hir.specs.Sound.{Sound, Known, KnownIn, KnownScope, KnownFunction};
 ghost use Rattle.hir.specs.Spans.{identifiers_in};
 ghost use Rattle.reactive.specs.Rows.{Reading, rewound};
 ghost use Rattle.walk.specs.Events.{Shallow, on_tables};
@@ -35,7 +35,7 @@ fn promote_escaped(env: &mut Environment, scratch: &mut Scratch, id: IdentifierI
 
 // Names what a Scope row's scope depends on and declares.
 fn promote_scope(env: &mut Environment, scratch: &mut Scratch, id: ScopeId)
-    requires known { id.0 < length env.old.scopes.now }
+    requires known { KnownScope (model env.old) id }
     requires sound { Sound (tables env.old scratch.old) }
     ensures { tables env.new scratch.new ≡ does (tables env.old scratch.old) (scope id) }
 {
@@ -46,7 +46,7 @@ fn promote_scope(env: &mut Environment, scratch: &mut Scratch, id: ScopeId)
 
 // Names what a Pruned row's scope declares and what escaped. Every pass loops over its lists itself: a rule of this project.
 fn promote_pruned_scope(env: &mut Environment, scratch: &mut Scratch, id: ScopeId)
-    requires known { id.0 < length env.old.scopes.now }
+    requires known { KnownScope (model env.old) id }
     requires sound { Sound (tables env.old scratch.old) }
     ensures { tables env.new scratch.new ≡ does (tables env.old scratch.old) (pruned id) }
 {

@@ -1,11 +1,11 @@
 -- Rows whose numbers all have a row in the tables. Assumes nothing.
-use Rattle.std.specs.Prelude.{◌≡◌, ◌<◌, length, Some}
+use Rattle.std.specs.Prelude.{◌≡◌, Some}
 use Rattle.hir.specs.declared.ids.FunctionId.{FunctionId}
 use Rattle.hir.specs.declared.ids.IdentifierId.{IdentifierId}
 use Rattle.hir.specs.declared.ids.ScopeId.{ScopeId}
 use Rattle.hir.specs.Environments.{Model}
 use Rattle.hir.specs.Lists.{Each}
-use Rattle.hir.specs.Sound.{Known, KnownFunction}
+use Rattle.hir.specs.Sound.{Known, KnownFunction, KnownScope}
 use Rattle.reactive.specs.declared.row.RowHead.{RowHead}
 use Rattle.reactive.specs.Numbers.{scope_in, function_in}
 use Rattle.reactive.specs.Rows.{Row, head}
@@ -13,7 +13,7 @@ use Rattle.reactive.specs.Rows.{Row, head}
 -- what a row without its lists names has a row
 pub record HeadSound (m : Model) (h : RowHead) : Type 0 where
   pub identifier : (i : IdentifierId) → h.identifier ≡ Some i → Known m i
-  pub scope : (s : ScopeId) → scope_in h.number ≡ Some s → s.0 < length m.scopes
+  pub scope : (s : ScopeId) → scope_in h.number ≡ Some s → KnownScope m s
   pub function : (f : FunctionId) → function_in h.number ≡ Some f → KnownFunction m f
 
 pub record RowSound (m : Model) (r : Row) : Type 0 where

@@ -44,6 +44,8 @@ abbrev pub Allowed : {W : Type 0} → (W → Event → Type 0) → (W → Event 
 Allowed can after w [] = Unit {0}
 Allowed can after w (e ∷ es) = can w e × Allowed can after (after w e) es
 
+-- the row can be open
+-- No type has it of all rows of a source: a source is lent to each pass, and a struct around it would need a clause in each that the reference stays the same.
 abbrev pub Shallow : Row → Type 0
 Shallow r = r.depth < 128
 
