@@ -8,7 +8,8 @@ use Rattle.reactive.specs.declared.row.Number.TheVariants as numbers
 use Rattle.reactive.specs.Rows.{Row}
 use Rattle.image.specs.Format.{Fields}
 use Rattle.image_source.specs.Trees.{absent, identifier_of, number_kind, number_of, row_of}
-use Rattle.image_encode.specs.Fields.{plain, identifier_word, number_word, fields_of, has_scope, identifier_fits, number_fits, fits_in}
+use Rattle.reactive.specs.Codes.{has_scope}
+use Rattle.image_encode.specs.Fields.{plain, identifier_word, number_word, fields_of, identifier_fits, number_fits, fits_in}
 
 pub and_first : (a b : Bool) → a && b ≡ true → a ≡ true
 and_first true b e = refl

@@ -1,8 +1,9 @@
 -- The fields that stand for a row. Assumes nothing.
-use Rattle.std.specs.Prelude.{ℕ, ◌^◌, ◌≤◌, Bool, true, not, ◌&&◌, ◌||◌, ◌⊎◌, map, length, Some, None, Option, ◌==◌}
+use Rattle.std.specs.Prelude.{ℕ, ◌^◌, ◌≤◌, Bool, true, not, ◌&&◌, ◌⊎◌, map, length, Some, None, Option, ◌==◌}
 use Rattle.hir.specs.declared.ids.IdentifierId.{IdentifierId}
 use Rattle.reactive.specs.declared.row.Number.{Number}
 use Rattle.reactive.specs.declared.row.Number.TheVariants as numbers
+use Rattle.reactive.specs.Codes.{has_scope}
 use Rattle.reactive.specs.Rows.{Row}
 use Rattle.image.specs.Format.{Fields}
 use Rattle.image_source.specs.Trees.{absent}
@@ -22,10 +23,6 @@ number_word (Some (numbers.Function f)) = f.0
 -- the fields of a row
 abbrev pub fields_of : Row → Fields
 fields_of r = (r.code, (identifier_word r.identifier, (number_word r.number, (r.kind, (r.mode, (map plain r.operands, map plain r.marks))))))
-
--- the row's code has a scope for its number
-abbrev pub has_scope : ℕ → Bool
-has_scope code = code == 3 || code == 4
 
 abbrev pub identifier_fits : Option IdentifierId → Bool
 identifier_fits None = true

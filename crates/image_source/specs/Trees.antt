@@ -4,6 +4,7 @@ use Rattle.hir.specs.declared.ids.IdentifierId.{IdentifierId}
 use Rattle.hir.specs.Spans.{ident, function}
 use Rattle.reactive.specs.declared.row.Number.{Number}
 use Rattle.reactive.specs.declared.row.Number.TheVariants as numbers
+use Rattle.reactive.specs.Codes.{has_scope}
 use Rattle.reactive.specs.Rows.{Row}
 use Rattle.image.specs.Format.{Fields, Tree}
 
@@ -16,7 +17,7 @@ identifier_of n = cond (n == absent) None (Some (ident n))
 
 -- the number of a Scope or Pruned row is a scope, that of any other a function
 abbrev pub number_kind : ℕ → ℕ → Number
-number_kind code n = cond (code == 3 || code == 4) (numbers.Scope (record { 0 = n })) (numbers.Function (function n))
+number_kind code n = cond (has_scope code) (numbers.Scope (record { 0 = n })) (numbers.Function (function n))
 
 abbrev pub number_of : ℕ → ℕ → Option Number
 number_of code n = cond (n == absent) None (Some (number_kind code n))

@@ -4,8 +4,8 @@ use Rattle.image.specs.declared.fault.SectionFault.{SectionFault}
 use Rattle.image.specs.Bytes.{Place, joined}
 use Rattle.image.specs.Layouts.{Begins}
 use Rattle.image.specs.Format.{Content, rank_of, content_bytes, after, section, section_bytes, InOrder, image_bytes, Image}
-use Rattle.image.specs.Steps.{Held, Opened, section_at, version_at}
-use Rattle.image_check.proofs.Whole.{Found, section_found, open_found, version_there}
+use Rattle.image.specs.Steps.{Held, Opened, section_at}
+use Rattle.image_check.proofs.Whole.{Found, section_found, open_found}
 use Rattle.image_tables.specs.declared.tables.Tables.{Tables}
 use Rattle.image_tables.specs.Tables.{Holds, AddedSection, ReadsBy, SectionReads, HoldsImage}
 use Rattle.image_tables.proofs.Growing.{content_reads, one_more}
@@ -21,11 +21,6 @@ pub record Loading (bs : List ℕ) (q : Place) (t : Tables) : Type 0 where
   pub left : q.1 ≡ joined section_bytes rest
   pub holds : Holds loaded t
   pub room : 4 * length (vec_items t.pool) + length q.1 ≤ length bs
-
-version_left : (cs : List Content) (q : Place) → version_at (image_bytes cs) ≡ Ok q → q.1 ≡ joined section_bytes cs
-version_left cs q e =
-    let v : ◌≡◌ {A = Place} (1, joined section_bytes cs) q = cc (version_there 1 (joined section_bytes cs)) in
-    ap (λ (p : Place). p.1) (sym v)
 
 -- the next section
 record Upcoming (q : Place) (rest : List Content) (stage : ℕ) : Type 0 where

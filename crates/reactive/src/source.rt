@@ -5,6 +5,7 @@ use crate::row::RowHead;
 use hir::ids::IdentifierId;
 
 // A fixed list of rows, given one by one, and the lists of the row last given.
+// Two questions, operand i and mark i, as every source elsewhere answers them: with one for both lists each would ask which.
 pub trait TreeSource {
     ghost reading: { Self → Reading };
 
