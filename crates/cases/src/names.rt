@@ -25,7 +25,7 @@ fn names<C: fmt::Debug>(text: &str, case: &C) -> bool {
 }
 
 // The byte whose case has this name, or the number that stands for one.
-fn byte<C: TryFrom<u8, Error = Unknown> + fmt::Debug + Drop>(text: &str) -> Result<u8, Fault> {
+fn byte_of<C: TryFrom<u8, Error = Unknown> + fmt::Debug + Drop>(text: &str) -> Result<u8, Fault> {
     for byte in 0..=u8::MAX {
         if C::try_from(byte).is_ok_and(|case| names(text, &case)) {
             return Ok(byte);
@@ -36,10 +36,10 @@ fn byte<C: TryFrom<u8, Error = Unknown> + fmt::Debug + Drop>(text: &str) -> Resu
 
 // The code of a row: its name, or any number.
 pub fn code(text: &str) -> Result<u8, Fault> {
-    byte::<Code>(text)
+    byte_of::<Code>(text)
 }
 
 // The kind of a Leaf: its name, or any number.
 pub fn kind(text: &str) -> Result<u8, Fault> {
-    byte::<Kind>(text)
+    byte_of::<Kind>(text)
 }
