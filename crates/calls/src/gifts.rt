@@ -37,7 +37,7 @@ pub fn give(env: &mut Environment, id: IdentifierId) -> Result<(), Refusal>
     Ok(())
 }
 
-// Answers the tag of an identifier.
+// Answers the tag of an identifier: a byte, since a row may hold one that is no `Tag`, and looking tests none.
 pub fn look(env: &Environment, id: IdentifierId) -> Result<u8, Refusal>
     ensures { LookStep (model env.now) id result }
 {

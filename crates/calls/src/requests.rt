@@ -15,7 +15,7 @@ pub enum Request {
     Spell(IdentifierId),
 }
 
-// What an accepted call answered: a run the place of its first journal row and their count, a look a tag, a spelling a length.
+// What an accepted call answered: a run the place of its first journal row and their count, a look a tag as it stands, a spelling a length.
 #[derive(Clone, Copy)]
 pub enum Reply {
     Ran(usize, usize),
@@ -34,6 +34,7 @@ pub enum RequestError {
 // What a request got.
 pub type Answer = Result<Reply, RequestError>;
 
+// By hand: a derive writes no contract.
 impl From<Refusal> for RequestError {
     ghost from_gives = { λ refusal error. error ≡ Refused refusal };
 

@@ -18,7 +18,7 @@ fn mixed<'a>(first: &'a Tree, second: &'a Tree) -> [Either<TableSource<'a>, Tabl
     [Either::Left(first.source()), Either::Right(second.source())]
 }
 
-// Each of the four calls by itself, and not as a list of one request: a case shows that both answer alike.
+// Each of the four calls by itself: as lists for `perform` each would take a list of one request and one of one answer.
 impl Case {
     // Runs over a tree. Its source stands one row in, so that the run has to rewind it.
     pub fn run(&mut self, place: usize) -> Result<Answer, Fault> {

@@ -17,7 +17,7 @@ pub struct Case {
     pub parameters: Span,
     pub trees: Vec<Tree>,
     pub requests: Vec<Request>,
-    // the case says how much scratch there is; how much stands in the state
+    // the case says how much scratch there is; how much stands in the state, whose vectors are there in either case
     scratch_set: bool,
 }
 
@@ -32,7 +32,7 @@ impl Case {
                 functions: Vec::new(heap),
                 pool: Vec::new(heap),
             },
-            parameters: Span { start: 0, count: 0 },
+            parameters: Span::default(),
             trees: Vec::new(heap),
             requests: Vec::new(heap),
             scratch_set: false,

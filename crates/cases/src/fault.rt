@@ -1,26 +1,20 @@
 // Why a program of cases stops before its end.
 use std::alloc::{AllocError, AllocFailed};
+use std::io;
 use std::num::ParseIntError;
 use std::str::Utf8Error;
-use std::{fmt, io};
+use thiserror::Error;
 
-#[derive(Drop)]
+#[derive(Debug, Drop, Error)]
 pub enum Fault {
+    #[error("no memory")]
     Memory,
+    #[error("input or output failed")]
     Stream,
+    #[error("bad line")]
     Line,
+    #[error("a source was not rewound")]
     NotRewound,
-}
-
-impl fmt::Display for Fault {
-    fn fmt<W: fmt::Write>(&self, f: &mut fmt::Formatter<W>) -> fmt::Result {
-        match self {
-            Fault::Memory => write!(f, "no memory"),
-            Fault::Stream => write!(f, "input or output failed"),
-            Fault::Line => write!(f, "bad line"),
-            Fault::NotRewound => write!(f, "a source was not rewound"),
-        }
-    }
 }
 
 // By hand, since a derive would need a variant for each of the library's errors that are told alike.

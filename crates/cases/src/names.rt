@@ -26,12 +26,8 @@ fn names<C: fmt::Debug>(text: &str, case: &C) -> bool {
 
 // The byte whose case has this name, or the number that stands for one.
 fn byte_of<C: TryFrom<u8, Error = Unknown> + fmt::Debug + Drop>(text: &str) -> Result<u8, Fault> {
-    for byte in 0..=u8::MAX {
-        if C::try_from(byte).is_ok_and(|case| names(text, &case)) {
-            return Ok(byte);
-        }
-    }
-    number(text)
+    let named = (0..=u8::MAX).find(|byte| C::try_from(*byte).is_ok_and(|case| names(text, &case)));
+    named.map_or_else(|| number(text), Ok)
 }
 
 // The code of a row: its name, or any number.

@@ -26,7 +26,7 @@ pub struct Tables {
     pub pool: Vec<u32>,
 }
 
-// The tables that calls write, and the scratch.
+// The tables that calls write, and the scratch. The journal has free rows, of which `count` are in use, as calls want it.
 #[derive(Clone, PartialEq, Drop)]
 pub struct State {
     pub identifiers: Vec<Identifier>,

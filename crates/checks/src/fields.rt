@@ -58,7 +58,7 @@ fn wrong_number(sizes: Sizes, code: Code, row: &RowHead) -> bool
     }
 }
 
-// Whether the byte is no mode, or there is one where the kind has none.
+// Whether the byte is no mode, or there is one where the kind has none: there it is 0, which is no mode then.
 fn wrong_mode(kind: Kind, mode: u8) -> bool
     ensures { result ≡ wrong_mode (kind_number kind) mode }
 {
@@ -103,6 +103,7 @@ fn wrong_marks(kind: Kind, count: usize) -> bool
 }
 
 // Whether some identifier of a list is absent, by a loop and no chain: a rule of this project for range checks.
+// Beside `some_absent` of numbers: one for both would map either to the other first.
 fn absent_in<S: TreeSource>(ids: Identifiers<S>, count: usize) -> bool
     ensures { result ≡ absent_in count ids.entry }
 {
@@ -128,14 +129,14 @@ fn wrong_leaf<S: TreeSource>(row: &GivenRow<S>, count: usize) -> bool
         || absent_in(row.marks(), count)
 }
 
-// Whether what belongs to a Leaf is 0 or empty.
+// Whether what belongs to a Leaf is 0 or empty. The zeros are empty fields here, no kind and no mode.
 fn leafless(row: &RowHead) -> bool
     ensures { result ≡ leafless row.now }
 {
     row.kind == 0 && row.mode == 0 && row.operands == 0 && row.marks == 0
 }
 
-// Whether a field of a row of this code is wrong.
+// Whether a field of a row of this code is wrong. The code comes apart from the row, in which it is still a byte.
 pub fn wrong_fields<S: TreeSource>(row: &GivenRow<S>, code: Code, sizes: Sizes) -> bool
     requires { code_number code ≡ row.now.code }
     ensures { result ≡ wrong_fields sizes row.now }

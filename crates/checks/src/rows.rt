@@ -53,7 +53,7 @@ fn check_all<S: TreeSource>(source: &mut S, sizes: Sizes) -> Result<usize, Refus
         if wrong_fields(&GivenRow::new(row, source), code, sizes) {
             return Err(Refusal::Field);
         }
-        // Of the row and not of `code`, which is no plainer: what is counted is the byte.
+        // Of the row: the byte is counted, and that no other code has its number would take a proof by the 24 codes.
         if row.is(Code::Scope) {
             scopes += 1;
         }

@@ -42,7 +42,7 @@ fn long_function(function: Function) -> bool
 }
 
 // Whether a list of some scope is too long.
-// Each such test is a function of its own: of the callers with the chains written out the search found no proof.
+// Each such test is a function of its own: with the chains written out in the callers these would need answers by hand.
 fn some_long_scope(scopes: &[Scope]) -> bool
     ensures { result ≡ list_any long_scope scopes.now }
 {

@@ -5,7 +5,7 @@ ghost use Rattle.collect.specs.Links.{Leads, is_along};
 use hir::ids::ScopeId;
 use hir::scratch::{Link, Trail};
 
-// Whether a scope is among those along a link.
+// Whether a scope is among those along a link. By a loop: it ends since links go down, which a chain of successors does not show.
 pub fn is_along(trail: &[Trail], link: Link, scope: ScopeId) -> bool
     requires { Leads trail.now link }
     ensures { result ≡ is_along trail.now link scope.0 }

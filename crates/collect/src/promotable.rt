@@ -27,7 +27,7 @@ use walk::walking::walk;
 pub struct CollectPromotable {
     // the link of the innermost active scope
     pub innermost: Link,
-    // how many trail rows are in use
+    // how many trail rows are in use: the trail is lent memory
     pub used: u32,
 }
 

@@ -9,6 +9,7 @@ use crate::tables::{Function, Identifier, JournalRow, Scope};
 pub const MOST_IDENTIFIERS: usize = 65536;
 
 // The tables that calls read and write, all lent, and how many journal rows are in use.
+// The journal is no Vec, since it is lent memory.
 #[derive(Drop)]
 pub struct Environment<'a> {
     pub identifiers: &'a mut [Identifier],

@@ -61,6 +61,7 @@ impl Layer {
     }
 }
 
+// By hand, as the next: a derive writes no contract.
 impl From<ByteFault> for SectionFault {
     ghost from_gives = { λ f r. r ≡ Bytes f };
 

@@ -8,19 +8,12 @@ use crate::cursor::Cursor;
 use crate::fault::ByteFault;
 
 // The numbers of a list, four bytes each.
-#[derive(Clone, Copy)]
+#[derive(Clone, Copy, Default)]
 pub struct Numbers<'a> {
     pub words: &'a [[u8; 4]],
 }
 
 impl<'a> Numbers<'a> {
-    // No numbers.
-    pub fn none() -> Numbers<'a>
-        ensures { see_numbers result ≡ [] }
-    {
-        Numbers { words: &[] }
-    }
-
     // How many there are.
     pub fn len(self) -> usize
         ensures { result ≡ length (see_numbers self.entry) }
@@ -36,8 +29,8 @@ impl<'a> Numbers<'a> {
     }
 }
 
-// The fields of a row; a number of all ones stands for an absent one.
-// No Option here: the answer of `fields_at` is words, so that each None would be turned back into all ones.
+// The fields of a row, unchecked; a number of all ones stands for an absent one.
+// Words, as they lie in the image: what one stands for is said where rows are made of them.
 #[derive(Clone, Copy)]
 pub struct RowFields<'a> {
     pub code: u8,

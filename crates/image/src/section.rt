@@ -6,7 +6,7 @@ ghost use Rattle.image.specs.Steps.{Is, held, see_open, see_reader, section_at, 
 use crate::cursor::Cursor;
 use crate::fault::{ByteFault, SectionFault};
 
-// A section reads as one of four cases, each with its part of the image.
+// A section reads as one of four cases, each with its part of the image: a rule of this project.
 #[derive(Clone, Copy)]
 pub enum Section<'a> {
     Identifiers(&'a [u8]),

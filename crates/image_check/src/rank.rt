@@ -6,7 +6,7 @@ ghost use Rattle.image_check.specs.Ranks.{rank_number, stage_of};
 
 use image::section::Section;
 
-// The place of a section: one I, any S, any F, any T.
+// The place of a section: one I, any S, any F, any T. Apart from `Section`, since the last one is kept without its bytes.
 #[derive(Clone, Copy, PartialEq, PartialOrd)]
 pub enum Rank {
     Identifiers,

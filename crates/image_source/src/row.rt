@@ -19,7 +19,7 @@ fn identifier_of(number: u32) -> Option<IdentifierId>
     }
 }
 
-// The number of a Scope or Pruned row is a scope, that of any other a function.
+// The number of a Scope or Pruned row is a scope, that of any other a function. The code is unchecked.
 fn number_of(code: u8, number: u32) -> Option<Number>
     ensures { result ≡ number_of code number }
 {

@@ -25,7 +25,7 @@ pub fn parameters<'a>(content: &'a [u8]) -> Numbers<'a>
 {
     match Cursor::new(content).read_numbers() {
         Ok((numbers, _)) => numbers,
-        Err(_) => Numbers::none(),
+        Err(_) => Numbers::default(),
     }
 }
 

@@ -7,6 +7,7 @@ use image::cursor::Cursor;
 use image::fields::Numbers;
 
 // What is left of the innermost open row, how many rows were given, and the lists of the last.
+// `given` is there for the invariant, by which these are the rows: a ghost field holds facts and no number.
 #[derive(Clone, Copy)]
 pub struct Standing<'a> {
     pub left: Cursor<'a>,
@@ -23,8 +24,8 @@ impl<'a> Standing<'a> {
         Standing {
             left: rows,
             given: 0,
-            operands: Numbers::none(),
-            marks: Numbers::none(),
+            operands: Numbers::default(),
+            marks: Numbers::default(),
         }
     }
 }

@@ -15,6 +15,7 @@ pub enum LoadFault {
     Memory,
 }
 
+// By hand, as all below: a derive writes no contract.
 impl From<RowFault> for LoadFault {
     ghost from_gives = { λ f r. r ≡ Image f };
 
@@ -31,6 +32,7 @@ impl From<SectionFault> for LoadFault {
     }
 }
 
+// For callers that read bytes themselves.
 impl From<ByteFault> for LoadFault {
     ghost from_gives = { λ f r. r ≡ Image (Section (Bytes f)) };
 
@@ -39,6 +41,7 @@ impl From<ByteFault> for LoadFault {
     }
 }
 
+// For callers: an allocation that hands its value back.
 impl<T: Drop> From<AllocFailed<T>> for LoadFault {
     ghost from_gives = { λ _ r. r ≡ Memory };
 
@@ -47,7 +50,7 @@ impl<T: Drop> From<AllocFailed<T>> for LoadFault {
     }
 }
 
-// Beside the other, since `?` needs one for each error of the library.
+// Beside the one above, since `?` needs one for each error of the library.
 impl From<AllocError> for LoadFault {
     ghost from_gives = { λ _ r. r ≡ Memory };
 

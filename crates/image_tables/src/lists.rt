@@ -68,7 +68,7 @@ pub fn add_lists<const N: usize>(
     requires room { 4 * vec_len pool.old + length content.now < 2 ^ 32 }
     ensures { IfOk result (λ s. (q : Place) × AddedLists pool.old.items (0, content.now) s q pool.new.items) }
 {
-    let mut spans = [Span { start: 0, count: 0 }; N];
+    let mut spans = [Span::default(); N];
     let mut rest = Cursor::new(content);
     for span in spans.iter_mut() {
         (*span, rest) = add_list(pool, rest)?;

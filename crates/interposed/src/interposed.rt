@@ -64,15 +64,15 @@ impl PromoteInterposed {
         env: &Environment,
         scratch: &mut Scratch,
         lvalue: IdentifierId,
-        kind: u8,
+        row: &RowHead,
         mark: IdentifierId,
     )
-        requires { Ready (whole self.now (tables env.now scratch.old)) (mark_acts kind lvalue mark) }
-        ensures { whole self.now (tables env.now scratch.new) ≡ fold does (whole self.now (tables env.now scratch.old)) (mark_acts kind lvalue mark) }
+        requires { Ready (whole self.now (tables env.now scratch.old)) (mark_acts row.now.kind lvalue mark) }
+        ensures { whole self.now (tables env.now scratch.new) ≡ fold does (whole self.now (tables env.now scratch.old)) (mark_acts row.now.kind lvalue mark) }
     {
-        if is_load(kind) {
+        if is_load(row.kind) {
             self.load(env, scratch, lvalue, mark);
-        } else if is_property_load(kind) {
+        } else if is_property_load(row.kind) {
             self.load_property(env, scratch, lvalue, mark);
         }
     }
@@ -91,11 +91,11 @@ impl PromoteInterposed {
         let Some(l) = lvalue else {
             return;
         };
-        let kind = row.head().kind;
-        if is_global_load(kind) {
+        let head = row.head();
+        if is_global_load(head.kind) {
             self.load_global(env, scratch, l);
         } else if let Some(mark) = row.marks().next() {
-            self.load_mark(env, scratch, l, kind, mark);
+            self.load_mark(env, scratch, l, head, mark);
         }
     }
 

@@ -24,8 +24,6 @@ pub const ROWS: usize = 20;
 // Every list of the panel, one behind the other.
 pub const POOL: [u32; 8] = [0, 7, 1, 4, 5, 6, 3, 2];
 
-const EMPTY: Span = Span { start: 0, count: 0 };
-
 // A part of the pool.
 fn span(start: u32, count: u32) -> Span {
     Span { start, count }
@@ -47,9 +45,9 @@ pub fn identifiers() -> [Identifier; IDENTIFIERS] {
 // The scope that keeps the element, identifier 7.
 pub fn scopes() -> [Scope; 1] {
     [Scope {
-        dependencies: EMPTY,
+        dependencies: Span::default(),
         declarations: span(1, 1),
-        reassignments: EMPTY,
+        reassignments: Span::default(),
     }]
 }
 
@@ -85,7 +83,7 @@ pub fn rows() -> [RowEntry; ROWS] {
         row(1, Code::Instruction, Some(3), None),
         leaf(2, Kind::PropertyLoad, span(2, 1), span(2, 1)),
         row(1, Code::Instruction, Some(4), None),
-        leaf(2, Kind::LoadGlobal, EMPTY, EMPTY),
+        leaf(2, Kind::LoadGlobal, Span::default(), Span::default()),
         row(1, Code::Instruction, Some(5), None),
         leaf(2, Kind::PropertyLoad, span(3, 1), span(3, 1)),
         row(1, Code::Instruction, Some(6), None),

@@ -23,6 +23,7 @@ use walk::visitor::Visitor;
 use walk::walking::walk;
 
 // Names an identifier that has no name and whose declaration escaped.
+// The last pass asks likewise for another flag: a closure for the flag would be longer than the test.
 fn promote_escaped(env: &mut Environment, scratch: &mut Scratch, id: IdentifierId)
     requires known { Known (model env.old) id }
     requires sound { Sound (tables env.old scratch.old) }

@@ -5,7 +5,7 @@ use crate::row::RowHead;
 use hir::ids::IdentifierId;
 
 // A fixed list of rows, given one by one, and the lists of the row last given.
-// Two questions, operand i and mark i, as every source elsewhere answers them: with one for both lists each would ask which.
+// Operand i and mark i are two questions: a rule of this project, since these four are what a source elsewhere answers.
 pub trait TreeSource {
     ghost reading: { Self → Reading };
 

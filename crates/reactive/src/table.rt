@@ -8,7 +8,8 @@ use crate::source::TreeSource;
 use hir::ids::IdentifierId;
 use hir::span::Span;
 
-// A row whose lists are spans of a pool.
+// A row whose lists are spans of a pool. Its bytes are unchecked, as in `RowHead`.
+// No generic row for both: one with spans does not become one with lengths but field by field.
 #[derive(Clone, Copy, Default)]
 pub struct RowEntry {
     pub depth: u32,

@@ -14,7 +14,7 @@ use reactive::given::GivenRow;
 use reactive::row::RowHead;
 use reactive::source::TreeSource;
 
-// Leaves the open rows from a depth on, innermost first.
+// Leaves the open rows from a depth on, innermost first: in this order `pop` takes them, which a drain would have to turn.
 fn close<V: Visitor>(
     opened: &mut ArrayVec<RowHead, MOST_OPEN>,
     depth: usize,
