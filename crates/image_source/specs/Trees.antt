@@ -1,5 +1,5 @@
 -- The rows of a tree that an image holds, in walk order. Assumes nothing.
-use Rattle.std.specs.Prelude.{ℕ, zero, suc, cond, ◌||◌, List, [], ◌∷◌, ◌++◌, map, Some, None, Option, ◌==◌}
+use Rattle.std.specs.Prelude.{ℕ, zero, suc, cond, List, [], ◌∷◌, ◌++◌, map, Some, None, Option, ◌==◌}
 use Rattle.hir.specs.declared.ids.IdentifierId.{IdentifierId}
 use Rattle.hir.specs.Spans.{ident, function}
 use Rattle.reactive.specs.declared.row.Number.{Number}
