@@ -53,6 +53,7 @@ fn check_run<S: TreeSource>(
 }
 
 // Names the temporaries that a reason covers, and answers the place of the first new journal row and their count.
+// What it may alter is lent part by part: no struct of references could say that it gives each back.
 pub fn run<S: TreeSource>(
     env: &mut Environment,
     scratch: &mut Scratch,

@@ -1,5 +1,5 @@
 // Why a program of cases stops before its end.
-use std::alloc::{AllocError, AllocFailed};
+use std::alloc::AllocError;
 use std::io;
 use std::num::ParseIntError;
 use std::str::Utf8Error;
@@ -8,34 +8,16 @@ use thiserror::Error;
 #[derive(Debug, Drop, Error)]
 pub enum Fault {
     #[error("no memory")]
-    Memory,
+    Memory(#[from(alloc)] AllocError),
     #[error("input or output failed")]
-    Stream,
+    Stream(#[from] io::Error),
     #[error("bad line")]
     Line,
     #[error("a source was not rewound")]
     NotRewound,
 }
 
-// By hand, since a derive would need a variant for each of the library's errors that are told alike.
-impl From<AllocError> for Fault {
-    fn from(_e: AllocError) -> Fault {
-        Fault::Memory
-    }
-}
-
-impl<T: Drop> From<AllocFailed<T>> for Fault {
-    fn from(_e: AllocFailed<T>) -> Fault {
-        Fault::Memory
-    }
-}
-
-impl From<io::Error> for Fault {
-    fn from(_e: io::Error) -> Fault {
-        Fault::Stream
-    }
-}
-
+// By hand, since a derive would need a variant for each of the two errors that are told alike.
 impl From<ParseIntError> for Fault {
     fn from(_e: ParseIntError) -> Fault {
         Fault::Line

@@ -7,7 +7,7 @@ use reactive::kind::Kind;
 use std::fmt;
 use std::fmt::Write;
 
-// What is left of a text behind all that was written, which has to be its front.
+// What is left of a text behind all that was written, which has to be its front: no derive reads a case by its name.
 #[derive(Drop)]
 struct Unmatched<'a>(&'a str);
 

@@ -1,6 +1,7 @@
 // The words, numbers and lists of a line.
 use crate::fault::Fault;
 use hir::span::Span;
+use std::alloc::AllocError;
 use std::iter::repeat_n;
 use std::num::ParseIntError;
 use std::str::FromStr;
@@ -52,7 +53,7 @@ fn add_items(pool: &mut Vec<u32>, text: &str) -> Result<(), Fault> {
 
 // How many numbers the pool has, as a place in it.
 fn length(pool: &[u32]) -> Result<u32, Fault> {
-    u32::try_from(pool.len()).map_err(|_| Fault::Memory)
+    u32::try_from(pool.len()).map_err(|_| Fault::Memory(AllocError))
 }
 
 // Adds a list to the pool: `-` for none, `0,3,4096*7`, or `@2+5` for any part of the pool or of what lies beyond.

@@ -103,7 +103,7 @@ fn wrong_marks(kind: Kind, count: usize) -> bool
 }
 
 // Whether some identifier of a list is absent, by a loop and no chain: a rule of this project for range checks.
-// Beside `some_absent` of numbers: one for both would map either to the other first.
+// Beside `some_absent` of numbers: one for any iterator would have to speak of items that it does not reach.
 fn absent_in<S: TreeSource>(ids: Identifiers<S>, count: usize) -> bool
     ensures { result ≡ absent_in count ids.entry }
 {

@@ -144,7 +144,7 @@ pub record Linked (v : CollectPromotable) (n : Notes) : Type 0 where
   pub down : (j : ℕ) → j < v.used → reach (trail_of n.trail j).link ≤ j
   pub recorded : (d : ℕ) → IfSome (work_of n d).recorded (λ l. reach l ≤ v.used)
 
--- the acts can be done
+-- the acts can be done; no type holds it, since it is of lent tables, and each function asks it of other acts
 pub record Ready (w : Whole CollectPromotable) (todo : List Act) : Type 0 where
   pub sound : Sound w.tables
   pub linked : Linked w.visitor w.tables.notes

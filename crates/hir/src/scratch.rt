@@ -24,7 +24,7 @@ pub struct Work {
 }
 
 // An active scope, and the link of the one around it.
-#[derive(Clone, Copy, PartialEq)]
+#[derive(Clone, Copy, Default, PartialEq)]
 pub struct Trail {
     pub scope: ScopeId,
     pub link: Link,
@@ -32,6 +32,7 @@ pub struct Trail {
 
 // Handed on beside the environment and not in one struct with it, whose methods would each have to ensure that both references stay the same.
 // Memory that a run may write over: a work row for each identifier, a mark for each function, a trail row for each Scope row.
+// Rows of their own beside the tables, which are lent apart and have no room for notes.
 #[derive(Drop)]
 pub struct Scratch<'a> {
     pub work: &'a mut [Work],

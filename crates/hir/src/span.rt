@@ -7,7 +7,7 @@ pub const LONGEST_LIST: u32 = 4096;
 // How many rows of a tree may be open at once: each lies in the one before.
 pub const MOST_OPEN: usize = 128;
 
-// A list: a part of a pool of numbers.
+// A list: a part of a pool of numbers. All lists lie in one lent pool: a rule of this project.
 #[derive(Clone, Copy, Default, PartialEq)]
 pub struct Span {
     pub start: u32,

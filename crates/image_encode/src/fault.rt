@@ -12,7 +12,7 @@ pub enum EncodeFault {
     Memory,
 }
 
-// A count that four bytes do not hold.
+// A count that four bytes do not hold. By hand, as the others: a derive writes no contract.
 impl From<TryFromIntError> for EncodeFault {
     ghost from_gives = { λ _ r. r ≡ Unfit };
 

@@ -30,7 +30,7 @@ fn number_of(code: u8, number: u32) -> Option<Number>
     }
 }
 
-// The row of these fields, without its lists.
+// The row of these fields, without its lists. No From: the depth is not among them.
 pub fn row_head<'a>(depth: u32, fields: RowFields<'a>) -> RowHead
     ensures { result ≡ head (row_of depth (see_fields fields.entry)) }
 {

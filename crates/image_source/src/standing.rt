@@ -7,7 +7,7 @@ use image::cursor::Cursor;
 use image::fields::Numbers;
 
 // What is left of the innermost open row, how many rows were given, and the lists of the last.
-// `given` is there for the invariant, by which these are the rows: a ghost field holds facts and no number.
+// `given` is there for what the source stands for: a ghost field holds facts and no number.
 #[derive(Clone, Copy)]
 pub struct Standing<'a> {
     pub left: Cursor<'a>,

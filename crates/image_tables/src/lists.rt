@@ -37,7 +37,7 @@ pub fn add_identifiers(identifiers: &mut Vec<Identifier>, content: &[u8]) -> Res
 }
 
 // Puts the list at a cursor behind the pool's numbers: its span, and what follows it. The list was checked.
-// `room` stays a clause: it is of the pool and the bytes together, so that a struct of both would ask for it where it is made.
+// `reads` and `room` stay clauses: they are of one cursor, and of the pool and the bytes together, so that a struct would ask for them where it is made.
 pub fn add_list<'a>(
     pool: &mut Vec<u32>,
     cursor: Cursor<'a>,

@@ -57,6 +57,7 @@ Fits m (again i) = Known m i
 Fits m (parameters f) = KnownFunction m f
 Fits m (leaves s) = KnownScope m s
 
+-- the acts can be done
 abbrev pub Ready : Tables → List Act → Type 0
 Ready = growth.Ready Fits
 

@@ -100,7 +100,7 @@ barriers (global l ∷ more) = barriers more
 barriers (barrier l ∷ more) = 1 + barriers more
 barriers (tracks l ∷ more) = barriers more
 
--- the acts can be done, and the epoch does not wrap
+-- the acts can be done, and the epoch does not wrap; no type holds it, since it is of lent tables, and each function asks it of other acts
 pub record Ready (w : State) (todo : List Act) : Type 0 where
   pub sound : Sound w.tables
   pub fits : Each (Fits w.tables.env) todo

@@ -77,7 +77,7 @@ impl PromoteInterposed {
         }
     }
 
-    // What the kind does before its uses to the lvalue.
+    // What the kind does before its uses to the lvalue, which is of another row: the Instruction around the Leaf.
     fn load_value<S: TreeSource>(
         &self,
         env: &Environment,

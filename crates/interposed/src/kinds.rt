@@ -1,4 +1,4 @@
-// How the kinds of Leaf are treated directly under an Instruction, by the bytes that rows have: a `Kind` would ask more of callers.
+// How the kinds of Leaf are treated directly under an Instruction, by the bytes that rows have: else each call would decode them first.
 ghost use Rattle.std.specs.Prelude.{◌≡◌};
 ghost use Rattle.interposed.specs.Kinds.{is_load, is_property_load, is_global_load, is_store, is_constant, is_barrier, fixes_marks, may_raise};
 

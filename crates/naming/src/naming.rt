@@ -6,7 +6,7 @@ ghost use Rattle.naming.specs.Texts.{Lawful, write_answer, write_bytes};
 use crate::letter::Letter;
 use hir::refusal::Refusal;
 
-// A text for each letter and each number below 65,536, no two alike.
+// A text for each letter and each number below 65,536, no two alike. Two parameters: no name is ever kept as a value.
 pub trait Naming {
     ghost text: { Self → Letter → ℕ → List ℕ };
 

@@ -9,7 +9,7 @@ use account::{print_call, print_inline, print_journal, print_rows};
 use calls::perform::perform;
 use calls::requests::{Answer, Request, RequestError};
 use hir::environment::Environment;
-use hir::ids::{IdentifierId, ScopeId};
+use hir::ids::IdentifierId;
 use hir::scratch::{Scratch, Trail, Work};
 use hir::tables::{Function, JournalRow, Reason};
 use naming::decimal::Decimal;
@@ -37,10 +37,7 @@ fn name_panel(
 ) -> io::Result<()> {
     let mut work = [Work::default(); IDENTIFIERS];
     let mut marks = [false; 0];
-    let mut trail = [Trail {
-        scope: ScopeId(0),
-        link: None,
-    }; ROWS];
+    let mut trail = [Trail::default(); ROWS];
     let mut scratch = Scratch {
         work: &mut work,
         marks: &mut marks,

@@ -19,7 +19,7 @@ pub record Grows (b t : Tables) : Type 0 where
   pub marks : length t.notes.marks ≡ length b.notes.marks
   pub trail : length t.notes.trail ≡ length b.notes.trail
 
--- a pass can do these acts: the tables are sound, and each act speaks of what has a row
+-- a pass can do these acts: the tables are sound, and each act speaks of what has a row; no type holds it, since it is of lent tables, and each function asks it of other acts
 pub record Ready {A : Type 0} (Fits : Model → A → Type 0) (t : Tables) (todo : List A) : Type 0 where
   pub sound : Sound t
   pub fits : Each (Fits t.env) todo

@@ -84,6 +84,7 @@ Fits m (scope s) = KnownScope m s
 Fits m (pruned s) = KnownScope m s
 Fits m (inner f) = KnownFunction m f
 
+-- the acts can be done
 abbrev pub Ready : Tables → List Act → Type 0
 Ready = growth.Ready Fits
 

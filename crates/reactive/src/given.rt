@@ -9,7 +9,7 @@ use hir::ids::IdentifierId;
 use std::marker::Model;
 use std::ops::Range;
 
-// One of the two lists of a row.
+// One of the two lists of a row: a name and no closure, since an iterator keeps it and asks on.
 #[derive(Clone, Copy)]
 pub enum RowList {
     Operands,
