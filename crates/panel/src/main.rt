@@ -3,9 +3,8 @@
 
 mod account;
 mod tables;
-mod words;
 
-use account::{print_call, print_inline, print_journal, print_rows};
+use account::{print_call, print_inline, print_journal};
 use calls::perform::perform;
 use calls::requests::{Answer, Request, RequestError};
 use hir::environment::Environment;
@@ -14,6 +13,7 @@ use hir::scratch::{Scratch, Trail, Work};
 use hir::tables::{Function, JournalRow, Reason};
 use naming::decimal::Decimal;
 use reactive::table::TableSource;
+use report::rows::print_rows;
 use std::io;
 use tables::{IDENTIFIERS, POOL, ROWS};
 

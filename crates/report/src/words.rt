@@ -1,4 +1,4 @@
-// Reasons and refusals in words, by functions and no Display: the words are the panel's own, and `hir` tells numbers alone.
+// Reasons and refusals in words, by functions and no Display: the words are the programs' own, and `hir` tells numbers alone.
 use hir::refusal::Refusal;
 use hir::tables::Reason;
 
