@@ -1,6 +1,8 @@
-// What the programs print of trees, names, reasons and refusals.
+// What the programs print of trees, names, reasons, refusals and faults, and why they stop.
 #![tactic(auto)]
 
+pub mod fault;
+pub mod faults;
 pub mod names;
 pub mod rows;
 pub mod words;

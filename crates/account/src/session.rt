@@ -1,0 +1,68 @@
+// What runs write besides the tables of their image: a journal and scratch, which last from run to run.
+use hir::environment::Environment;
+use hir::ids::{IdentifierId, ScopeId};
+use hir::scratch::{Scratch, Trail, Work};
+use hir::tables::{JournalRow, Reason};
+use image_tables::tables::{Panel, Tables};
+use report::fault::Fault;
+use std::alloc::Global;
+
+// The fewest bytes that a row takes in an image: one without operands, marks and rows within it.
+const ROW_BYTES: usize = 23;
+
+// A run refuses a tree of more rows.
+const MOST_ROWS: usize = 262144;
+
+#[derive(Drop)]
+pub struct Session {
+    journal: Vec<JournalRow>,
+    pub count: usize,
+    work: Vec<Work>,
+    marks: Vec<bool>,
+    trail: Vec<Trail>,
+}
+
+// At least the number of rows of each tree that a run accepts.
+fn most_rows(panels: &[Panel]) -> usize {
+    let longest = panels.iter().map(|panel| panel.content.len()).max();
+    (longest.unwrap_or(0) / ROW_BYTES).min(MOST_ROWS)
+}
+
+impl Session {
+    // An empty journal, and scratch for every tree of the tables.
+    pub fn new(heap: Global, tables: &Tables) -> Result<Session, Fault> {
+        let identifiers = tables.identifiers.len();
+        Ok(Session {
+            journal: vec![in heap; JournalRow {
+                identifier: IdentifierId(0),
+                reason: Reason::OwnParameter
+            }; identifiers]?,
+            count: 0,
+            work: vec![in heap; Work::default(); identifiers]?,
+            marks: vec![in heap; false; tables.functions.len()]?,
+            trail: vec![in heap; Trail {
+                scope: ScopeId(0),
+                link: None
+            }; most_rows(&tables.panels)]?,
+        })
+    }
+
+    // The environment of the tables with this journal, and the scratch, lent to a run.
+    pub fn lend<'a>(&'a mut self, tables: &'a mut Tables) -> (Environment<'a>, Scratch<'a>) {
+        let count = self.count;
+        let mut env = Environment::new(
+            &mut tables.identifiers,
+            &tables.scopes,
+            &tables.functions,
+            &tables.pool,
+            &mut self.journal,
+        );
+        env.count = count;
+        let scratch = Scratch {
+            work: &mut self.work,
+            marks: &mut self.marks,
+            trail: &mut self.trail,
+        };
+        (env, scratch)
+    }
+}

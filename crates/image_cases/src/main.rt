@@ -1,0 +1,43 @@
+// Checks the images of standard input, a line for each: a name, and the bytes in hexadecimal. Prints for each what the check answers.
+#![tactic(auto)]
+
+use hex::FromHexError;
+use image_check::check::check_image;
+use report::fault::Fault;
+use std::io;
+
+// Checks the image of a line.
+fn check_line(rt: &HostRuntime, line: &str) -> Result<(), Fault> {
+    let (name, text) = line.split_once(':').ok_or(Fault::Line)?;
+    let image = hex::decode(rt.alloc(), text.trim()).map_err(|e| match e {
+        FromHexError::OutOfMemory => Fault::Memory,
+        _ => Fault::Line,
+    })?;
+    match check_image(&image) {
+        Ok(()) => println!(rt; "{name}: an image")?,
+        Err(fault) => println!(rt;
+            "{name}: fault {} at byte {}, layer {}",
+            fault.cause().number(),
+            fault.byte(),
+            fault.layer().number()
+        )?,
+    }
+    Ok(())
+}
+
+// Checks all lines.
+fn check_all(rt: &HostRuntime) -> Result<(), Fault> {
+    let text = io::read_to_string(rt.alloc(), rt.stdin())?;
+    for line in text.lines() {
+        check_line(rt, line)?;
+    }
+    Ok(())
+}
+
+// Checks the images, or prints why it stops.
+fn main(rt: HostRuntime) -> io::Result<()> {
+    match check_all(&rt) {
+        Ok(()) => Ok(()),
+        Err(fault) => println!(rt; "{fault}"),
+    }
+}
