@@ -1,6 +1,6 @@
 // What runs write besides the tables of their image: a journal and scratch, which last from run to run.
 use hir::environment::Environment;
-use hir::ids::{IdentifierId, ScopeId};
+use hir::ids::IdentifierId;
 use hir::scratch::{Scratch, Trail, Work};
 use hir::tables::{JournalRow, Reason};
 use image_tables::tables::{Panel, Tables};
@@ -40,10 +40,7 @@ impl Session {
             count: 0,
             work: vec![in heap; Work::default(); identifiers]?,
             marks: vec![in heap; false; tables.functions.len()]?,
-            trail: vec![in heap; Trail {
-                scope: ScopeId(0),
-                link: None
-            }; most_rows(&tables.panels)]?,
+            trail: vec![in heap; Trail::default(); most_rows(&tables.panels)]?,
         })
     }
 

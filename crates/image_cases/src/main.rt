@@ -4,13 +4,14 @@
 use hex::FromHexError;
 use image_check::check::check_image;
 use report::fault::Fault;
+use std::alloc::AllocError;
 use std::io;
 
 // Checks the image of a line.
 fn check_line(rt: &HostRuntime, line: &str) -> Result<(), Fault> {
     let (name, text) = line.split_once(':').ok_or(Fault::Line)?;
     let image = hex::decode(rt.alloc(), text.trim()).map_err(|e| match e {
-        FromHexError::OutOfMemory => Fault::Memory,
+        FromHexError::OutOfMemory => Fault::Memory(AllocError),
         _ => Fault::Line,
     })?;
     match check_image(&image) {
