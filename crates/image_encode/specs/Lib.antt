@@ -1,2 +1,4 @@
+pub mod Puts
 pub mod Fields
 pub mod Opens
+pub mod Trees

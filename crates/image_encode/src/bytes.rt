@@ -1,14 +1,18 @@
 // Numbers, lists and row fields, behind the bytes that are there already.
-ghost use Rattle.std.specs.Prelude.{◌≡◌, ℕ, ◌^◌, ◌<◌, List, ◌++◌, length, OnOk};
+ghost use Rattle.std.specs.Prelude.{◌≡◌, ℕ, ◌^◌, ◌<◌, ◌≤◌, List, ◌++◌, length, IfErr, OnOk};
 ghost use Rattle.std.specs.Iterator.{Drains, IsFinite};
+ghost use Rattle.hir.specs.Lists.{Each};
 ghost use Rattle.image.specs.Bytes.{be, joined};
-ghost use Rattle.image.specs.Layouts.{numbers};
+ghost use Rattle.image.specs.Layouts.{word, numbers};
+ghost use Rattle.image_encode.specs.declared.fault.EncodeFault.TheVariants.{Unfit};
+ghost use Rattle.image_encode.specs.Puts.{Put};
 
+use crate::fault::EncodeFault;
 use std::alloc::AllocError;
 
 // A number of four bytes, the highest first.
 pub fn write_u32(out: &mut Vec<u8>, number: u32) -> Result<(), AllocError>
-    ensures { OnOk result (out.new.items ≡ out.old.items ++ be number) }
+    ensures { OnOk result (Put word number out.old.items out.new.items) }
 {
     out.extend_from_slice(&number.to_be_bytes())
 }
@@ -21,7 +25,7 @@ pub fn write_numbers<I: Iterator<Item = u32>>(
 ) -> Result<(), AllocError>
     requires can { I.can_next list }
     requires ends { IsFinite (I.remaining list) }
-    ensures { OnOk result ((xs : List ℕ) × Drains I.next_gives list xs × (out.new.items ≡ out.old.items ++ (be count ++ joined be xs))) }
+    ensures { OnOk result ((xs : List ℕ) × Drains I.next_gives list xs × Each (λ n. n < 2 ^ 32) xs × (out.new.items ≡ out.old.items ++ (be count ++ joined be xs))) }
 {
     write_u32(out, count)?;
     for number in list {
@@ -31,9 +35,20 @@ pub fn write_numbers<I: Iterator<Item = u32>>(
 }
 
 // A list: its count, and its numbers.
-pub fn write_list(out: &mut Vec<u8>, list: &[u32]) -> Result<(), AllocError>
-    requires { length list.now < 2 ^ 32 }
-    ensures { OnOk result (out.new.items ≡ out.old.items ++ numbers.write list.now) }
+pub fn write_list(out: &mut Vec<u8>, list: &[u32]) -> Result<(), EncodeFault>
+    ensures items { OnOk result (Put numbers list.now out.old.items out.new.items) }
+    ensures fault { IfErr result (λ e. (e ≡ Unfit → 2 ^ 32 ≤ length list.now)) }
 {
-    write_numbers(out, list.len() as u32, list.iter().copied())
+    write_numbers(out, u32::try_from(list.len())?, list.iter().copied())?;
+    Ok(())
+}
+
+// Bytes behind their length.
+pub fn write_part(out: &mut Vec<u8>, part: &[u8]) -> Result<(), EncodeFault>
+    ensures items { OnOk result ((length part.now < 2 ^ 32) × (out.new.items ≡ out.old.items ++ (be (length part.now) ++ part.now))) }
+    ensures fault { IfErr result (λ e. (e ≡ Unfit → 2 ^ 32 ≤ length part.now)) }
+{
+    write_u32(out, u32::try_from(part.len())?)?;
+    out.extend_from_slice(part)?;
+    Ok(())
 }

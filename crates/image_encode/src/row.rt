@@ -1,8 +1,9 @@
 // The fields of a row as bytes.
-ghost use Rattle.std.specs.Prelude.{◌≡◌, ◌^◌, ◌≤◌, ◌++◌, map, length, IfErr, OnOk};
+ghost use Rattle.std.specs.Prelude.{◌≡◌, ◌^◌, ◌≤◌, map, length, IfErr, OnOk};
 ghost use Rattle.image.specs.Layouts.{numbers};
 ghost use Rattle.image.specs.Format.{fields};
 ghost use Rattle.image_encode.specs.declared.fault.EncodeFault.TheVariants.{Unfit};
+ghost use Rattle.image_encode.specs.Puts.{Put};
 ghost use Rattle.image_encode.specs.Fields.{plain, identifier_word, number_word, fits_in, fields_of, LongList};
 
 use crate::bytes::{write_numbers, write_u32};
@@ -52,7 +53,7 @@ fn write_items<S: TreeSource>(
     count: usize,
 ) -> Result<(), EncodeFault>
     requires { count ≡ length ids }
-    ensures items { OnOk result (out.new.items ≡ out.old.items ++ numbers.write (map plain ids.entry)) }
+    ensures items { OnOk result (Put numbers (map plain ids.entry) out.old.items out.new.items) }
     ensures fault { IfErr result (λ e. (e ≡ Unfit → 2 ^ 32 ≤ count)) }
 {
     write_numbers(out, u32::try_from(count)?, ids.map(|id| id.0))?;
@@ -61,7 +62,7 @@ fn write_items<S: TreeSource>(
 
 // The fields of a row.
 pub fn write_fields<S: TreeSource>(out: &mut Vec<u8>, row: &GivenRow<S>) -> Result<(), EncodeFault>
-    ensures items { OnOk result (out.new.items ≡ out.old.items ++ fields.write (fields_of row.now)) }
+    ensures items { OnOk result (Put fields (fields_of row.now) out.old.items out.new.items) }
     ensures fault { IfErr result (λ e. (e ≡ Unfit → LongList row.now)) }
 {
     let head = row.head();
