@@ -3,3 +3,9 @@ pub mod Opens
 pub mod Fields
 pub mod Trees
 pub mod Rows
+pub mod Putting
+pub mod Panels
+pub mod Values
+pub mod Nesting
+pub mod One
+pub mod Small

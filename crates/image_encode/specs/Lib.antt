@@ -2,3 +2,5 @@ pub mod Puts
 pub mod Fields
 pub mod Opens
 pub mod Trees
+pub mod Panels
+pub mod Values

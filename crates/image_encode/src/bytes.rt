@@ -2,12 +2,15 @@
 ghost use Rattle.std.specs.Prelude.{◌≡◌, ℕ, ◌^◌, ◌<◌, ◌≤◌, List, ◌++◌, length, IfErr, OnOk};
 ghost use Rattle.std.specs.Iterator.{Drains, IsFinite};
 ghost use Rattle.hir.specs.Lists.{Each};
+ghost use Rattle.hir.specs.Spans.{part};
 ghost use Rattle.image.specs.Bytes.{be, joined};
 ghost use Rattle.image.specs.Layouts.{word, numbers};
+ghost use Rattle.image_tables.specs.Tables.{Within};
 ghost use Rattle.image_encode.specs.declared.fault.EncodeFault.TheVariants.{Unfit};
 ghost use Rattle.image_encode.specs.Puts.{Put};
 
 use crate::fault::EncodeFault;
+use hir::span::Span;
 use std::alloc::AllocError;
 
 // A number of four bytes, the highest first.
@@ -41,6 +44,17 @@ pub fn write_list(out: &mut Vec<u8>, list: &[u32]) -> Result<(), EncodeFault>
 {
     write_numbers(out, u32::try_from(list.len())?, list.iter().copied())?;
     Ok(())
+}
+
+// The list of a span, which must lie in the pool.
+pub fn write_span(out: &mut Vec<u8>, pool: &[u32], span: Span) -> Result<(), EncodeFault>
+    ensures items { OnOk result (Put numbers (part pool.now span) out.old.items out.new.items) }
+    ensures fault { IfErr result (λ e. (e ≡ Unfit → Within (length pool.now) span → ⊥)) }
+{
+    if span.start as usize + span.count as usize > pool.len() {
+        return Err(EncodeFault::Unfit);
+    }
+    write_list(out, span.of(pool))
 }
 
 // Bytes behind their length.

@@ -2,6 +2,10 @@
 #![tactic(auto)]
 
 pub mod bytes;
+pub mod encode;
 pub mod fault;
+pub mod panel;
+pub mod promise;
 pub mod row;
+pub mod section;
 pub mod tree;

@@ -3,3 +3,4 @@ pub mod Trees
 pub mod Checks
 pub mod Moves
 pub mod Keeps
+pub mod Given

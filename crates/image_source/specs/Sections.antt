@@ -1,10 +1,10 @@
 -- The own parameters and the rows of a T section. Assumes nothing.
-use Rattle.std.specs.Prelude.{ℕ, cond, List, [], length, Ok, Err, Result, ◌==◌}
+use Rattle.std.specs.Prelude.{◌≡◌, ℕ, cond, List, [], length, Ok, Err, Result, ◌==◌}
 use Rattle.reactive.specs.Rows.{Row}
 use Rattle.image.specs.declared.fault.ByteFault.{ByteFault}
 use Rattle.image.specs.declared.fault.RowFault.{RowFault}
 use Rattle.image.specs.Bytes.{Place}
-use Rattle.image.specs.Format.{Tree}
+use Rattle.image.specs.Format.{Tree, Panel, tree}
 use Rattle.image.specs.Steps.{both, in_section, in_row, numbers_at, many_at, row_at}
 use Rattle.image_source.specs.Trees.{all_rows, tree_rows}
 
@@ -38,3 +38,7 @@ rows_read (Err e) = []
 -- the rows that fill a holder
 abbrev pub held_rows : Place → List Row
 held_rows p = rows_read (many_at (row_at 128) p)
+
+-- the content of a T section gives the rows of its tree
+abbrev pub GivesItsTree : Type 0
+GivesItsTree = (t : Panel) → tree.Fine t → section_rows (tree.write t) ≡ tree_rows 128 0 t.1

@@ -1,0 +1,79 @@
+-- What an image says, apart from its bytes. Assumes nothing.
+use Rattle.std.specs.Prelude.{◌≡◌, ℕ, List, [], ◌∷◌, map, vec_items}
+use Rattle.hir.specs.declared.tables.Identifier.{Identifier}
+use Rattle.hir.specs.declared.tables.Scope.{Scope}
+use Rattle.hir.specs.declared.tables.Function.{Function}
+use Rattle.hir.specs.Spans.{part}
+use Rattle.reactive.specs.Rows.{Row}
+use Rattle.image.specs.Format.{Content, of_identifiers, of_scope, of_function, of_tree, InOrder, image_bytes}
+use Rattle.image.specs.Format as format
+use Rattle.image_source.specs.Sections.{section_rows}
+use Rattle.image_tables.specs.declared.tables.Panel.{Panel}
+use Rattle.image_tables.specs.declared.tables.Tables.{Tables}
+use Rattle.image_tables.specs.Tables.{identifier_row, scope_lists, function_lists, identifiers_in, scopes_in, functions_in, HoldsImage}
+use Rattle.image_encode.specs.Panels.{Lent, lent_says, panel_says}
+
+-- identifier rows, scopes and functions by their lists, and for each panel its own parameters and its rows
+pub record Values : Type 0 where
+  pub identifiers : List (ℕ × ℕ)
+  pub scopes : List format.Scope
+  pub functions : List format.Function
+  pub panels : List (List ℕ × List Row)
+
+-- the own parameters and the trees of the T sections, in their order
+abbrev pub trees_in : List Content → List format.Panel
+trees_in [] = []
+trees_in (of_identifiers is ∷ cs) = trees_in cs
+trees_in (of_scope s ∷ cs) = trees_in cs
+trees_in (of_function f ∷ cs) = trees_in cs
+trees_in (of_tree t ∷ cs) = t ∷ trees_in cs
+
+-- what the sections of an image say
+abbrev pub values_of : List Content → Values
+values_of cs = record {
+  identifiers = identifiers_in cs;
+  scopes = scopes_in cs;
+  functions = functions_in cs;
+  panels = map panel_says (trees_in cs);
+}
+
+-- the bytes are an image, and these are its values
+pub record ImageOf (v : Values) (bs : List ℕ) : Type 0 where
+  pub contents : List Content
+  pub ordered : InOrder contents 0
+  pub bytes : bs ≡ image_bytes contents
+  pub values : values_of contents ≡ v
+
+-- the values of tables whose lists lie in a pool, with the panels that were lent
+abbrev pub lent_values : List Identifier → List Scope → List Function → List ℕ → List Lent → Values
+lent_values is ss fs pool ls = record {
+  identifiers = map identifier_row is;
+  scopes = map (scope_lists pool) ss;
+  functions = map (function_lists pool) fs;
+  panels = map (lent_says pool) ls;
+}
+
+-- own parameters from the pool, and the rows that a source over the bytes gives
+abbrev pub loaded_panel : List ℕ → Panel → List ℕ × List Row
+loaded_panel pool p = (part pool p.parameters, section_rows p.content.now)
+
+-- the values of tables that were loaded
+abbrev pub loaded_values : Tables → Values
+loaded_values t = record {
+  identifiers = map identifier_row (vec_items t.identifiers);
+  scopes = map (scope_lists (vec_items t.pool)) (vec_items t.scopes);
+  functions = map (function_lists (vec_items t.pool)) (vec_items t.functions);
+  panels = map (loaded_panel (vec_items t.pool)) (vec_items t.panels);
+}
+
+-- an image has one meaning: what is encoded and loaded again is the same
+abbrev pub OneValue : Type 0
+OneValue = (v w : Values) (bs : List ℕ) → ImageOf v bs → ImageOf w bs → v ≡ w
+
+-- values have one image: what is loaded and encoded again is the same bytes
+abbrev pub OneImage : Type 0
+OneImage = (v : Values) (bs cs : List ℕ) → ImageOf v bs → ImageOf v cs → bs ≡ cs
+
+-- tables that hold an image have its values
+abbrev pub LoadedValues : Type 0
+LoadedValues = (bs : List ℕ) (t : Tables) → HoldsImage bs t → ImageOf (loaded_values t) bs
