@@ -1,11 +1,11 @@
 // Images made from tables and rows.
 #![tactic(auto)]
 
-pub mod bytes;
+mod bytes;
 pub mod encode;
 pub mod fault;
 pub mod panel;
 pub mod promise;
-pub mod row;
-pub mod section;
+mod row;
+mod section;
 pub mod tree;
