@@ -68,7 +68,7 @@ number_fits_or_absent : (code n : ℕ) (b : Bool) → eqb n absent ≡ b → num
 number_fits_or_absent code n true e = refl
 number_fits_or_absent code n false e = kind_fits code n (has_scope code) e refl
 
-both_true : (a b : Bool) → a ≡ true → b ≡ true → a && b ≡ true
+pub both_true : (a b : Bool) → a ≡ true → b ≡ true → a && b ≡ true
 both_true a b e f = (λ i. e i && f i)
 
 -- a row of an image fits

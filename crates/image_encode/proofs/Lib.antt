@@ -2,10 +2,11 @@ pub mod Writings
 pub mod Opens
 pub mod Fields
 pub mod Trees
+pub mod Nesting
+pub mod Refusing
 pub mod Rows
 pub mod Putting
 pub mod Panels
 pub mod Values
-pub mod Nesting
 pub mod One
 pub mod Small

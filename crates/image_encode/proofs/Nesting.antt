@@ -29,30 +29,30 @@ list_back (n ∷ l) = ap (λ k. n ∷ k) (list_back l)
 pub fields_back : (d : ℕ) (f : Fields) → fields_of (row_of d f) ≡ f
 fields_back d f = λ i. (f.0, (word_back f.1.0 (eqb f.1.0 absent) refl i, (number_back f.0 f.1.1.0 (eqb f.1.1.0 absent) refl i, (f.1.1.1.0, (f.1.1.1.1.0, (list_back f.1.1.1.1.1.0 i, list_back f.1.1.1.1.1.1 i))))))
 
-cons_head : {A : Type 0} (x y : A) (xs ys : List A) → x ∷ xs ≡ y ∷ ys → x ≡ y
+pub cons_head : {A : Type 0} (x y : A) (xs ys : List A) → x ∷ xs ≡ y ∷ ys → x ≡ y
 cons_head x y xs ys e = cc
 
-cons_tail : {A : Type 0} (x y : A) (xs ys : List A) → x ∷ xs ≡ y ∷ ys → xs ≡ ys
+pub cons_tail : {A : Type 0} (x y : A) (xs ys : List A) → x ∷ xs ≡ y ∷ ys → xs ≡ ys
 cons_tail x y xs ys e = cc
 
-row_fields : (d : ℕ) (f g : Fields) → row_of d f ≡ row_of d g → f ≡ g
+pub row_fields : (d : ℕ) (f g : Fields) → row_of d f ≡ row_of d g → f ≡ g
 row_fields d f g e = sym (fields_back d f) ∙ ap fields_of e ∙ fields_back d g
 
 -- the next row, where there is one, lies less deep
-abbrev Shallower : ℕ → List Row → Type 0
+abbrev pub Shallower : ℕ → List Row → Type 0
 Shallower d [] = Unit {0}
 Shallower d (r ∷ rs) = r.depth < d
 
-weaker : (d : ℕ) (xs : List Row) → Shallower d xs → Shallower (suc d) xs
+pub weaker : (d : ℕ) (xs : List Row) → Shallower d xs → Shallower (suc d) xs
 weaker d [] h = tt
 weaker d (r ∷ rs) h = omega arith
 
-beside : (n d : ℕ) (ts : List (Tree (suc n))) (xs : List Row) → Shallower d xs → Shallower (suc d) (all_rows (tree_rows (suc n) d) ts ++ xs)
+pub beside : (n d : ℕ) (ts : List (Tree (suc n))) (xs : List Row) → Shallower d xs → Shallower (suc d) (all_rows (tree_rows (suc n) d) ts ++ xs)
 beside n d [] xs h = weaker d xs h
 beside n d (t ∷ ts) xs h = omega arith
 
 -- trees beside one another are told by their rows, and by where the next row lies less deep
-forest : (n d : ℕ) (ts us : List (Tree n)) (xs ys : List Row) → Shallower d xs → Shallower d ys → all_rows (tree_rows n d) ts ++ xs ≡ all_rows (tree_rows n d) us ++ ys → (ts ≡ us) × (xs ≡ ys)
+pub forest : (n d : ℕ) (ts us : List (Tree n)) (xs ys : List Row) → Shallower d xs → Shallower d ys → all_rows (tree_rows n d) ts ++ xs ≡ all_rows (tree_rows n d) us ++ ys → (ts ≡ us) × (xs ≡ ys)
 forest n d [] [] xs ys hx hy e = (refl, e)
 forest zero d (t ∷ ts) us xs ys hx hy e = absurd t
 forest zero d [] (u ∷ us) xs ys hx hy e = absurd u

@@ -129,7 +129,7 @@ stands height h e =
     either true e f = inl (eqb-true _ 0 e)
     either false e f = inr (ltb-true _ _ f)
 
-none_closed : {top top' : List ℕ} {below below' : List (List ℕ)} → ClosedTo top below top' below' → length below ≡ 0 → (top ≡ top') × (below ≡ below')
+pub none_closed : {top top' : List ℕ} {below below' : List (List ℕ)} → ClosedTo top below top' below' → length below ≡ 0 → (top ≡ top') × (below ≡ below')
 none_closed none e = (refl, refl)
 none_closed (more c d) e = let s = none_closed c e in absurd (omega (arith, ap length s.1, fewer _ _ _ _ d))
 

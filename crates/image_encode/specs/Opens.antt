@@ -18,12 +18,12 @@ pub data ClosedTo : List ℕ → List (List ℕ) → List ℕ → List (List ℕ
   none : {top : List ℕ} {below : List (List ℕ)} → ClosedTo top below top below
   more : {top top' top'' : List ℕ} {below below' below'' : List (List ℕ)} → ClosedTo top below top' below' → Closed top' below' top'' below'' → ClosedTo top below top'' below''
 
--- a row that would be closed on the way has more bytes than its length can count
-pub record TooLong (top : List ℕ) (below : List (List ℕ)) : Type 0 where
+-- a row that would be closed on the way to this depth has more bytes than its length can count
+pub record TooLong (depth : ℕ) (top : List ℕ) (below : List (List ℕ)) : Type 0 where
   pub inner : List ℕ
   pub around : List (List ℕ)
   pub closes : ClosedTo top below inner around
-  pub some : 0 < length around
+  pub deep : depth < length around
   pub long : 2 ^ 32 ≤ length inner
 
 -- a row can stand where this many are open: no deeper than within the last, at most 127 deep, and one alone at depth 0

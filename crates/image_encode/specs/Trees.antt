@@ -10,3 +10,7 @@ pub record TreeOf (rs : List Row) (bs : List ℕ) : Type 0 where
   pub fine : (row 128).Fine tree
   pub rows : rs ≡ tree_rows 128 0 tree
   pub bytes : bs ≡ (row 128).write tree
+
+-- no tree that can be written has these rows
+abbrev pub NoTree : List Row → Type 0
+NoTree rs = (bs : List ℕ) → TreeOf rs bs → ⊥

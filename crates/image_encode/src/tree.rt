@@ -4,7 +4,7 @@ ghost use Rattle.reactive.specs.Rows.{rewound};
 ghost use Rattle.image_encode.specs.declared.fault.EncodeFault.TheVariants.{Unfit};
 ghost use Rattle.image_encode.specs.Fields.{LongList};
 ghost use Rattle.image_encode.specs.Opens.{Closed, ClosedTo, TooLong, Entered, fits_at};
-ghost use Rattle.image_encode.specs.Trees.{TreeOf};
+ghost use Rattle.image_encode.specs.Trees.{TreeOf, NoTree};
 
 use crate::bytes::write_part;
 use crate::fault::EncodeFault;
@@ -53,7 +53,7 @@ impl OpenRows {
     fn close_to(&mut self, depth: usize) -> Result<(), EncodeFault>
         ensures closed { OnOk result (ClosedTo self.old.top.items (map vec_items self.old.around.items) self.new.top.items (map vec_items self.new.around.items)) }
         ensures left { OnOk result (vec_len self.new.around ≡ min (vec_len self.old.around) depth) }
-        ensures fault { IfErr result (λ e. (e ≡ Unfit → TooLong self.old.top.items (map vec_items self.old.around.items))) }
+        ensures fault { IfErr result (λ e. (e ≡ Unfit → TooLong depth self.old.top.items (map vec_items self.old.around.items))) }
     {
         while self.around.len() > depth {
             self.close()?;
@@ -76,7 +76,7 @@ impl OpenRows {
     fn finish(mut self) -> Result<Vec<u8>, EncodeFault>
         ensures some { IfOk result (λ v. 0 < vec_len self.around) }
         ensures closed { IfOk result (λ v. ClosedTo self.top.items (map vec_items self.around.items) v.items []) }
-        ensures fault { IfErr result (λ e. (e ≡ Unfit → (vec_len self.around ≡ 0) ⊎ TooLong self.top.items (map vec_items self.around.items))) }
+        ensures fault { IfErr result (λ e. (e ≡ Unfit → (vec_len self.around ≡ 0) ⊎ TooLong 0 self.top.items (map vec_items self.around.items))) }
     {
         if self.around.is_empty() {
             return Err(EncodeFault::Unfit);
@@ -102,6 +102,7 @@ impl OpenRows {
 fn write_rows<S: TreeSource>(heap: Global, source: &mut S) -> Result<Vec<u8>, EncodeFault>
     requires { (S.TreeSource.reading source.old).place ≡ 0 }
     ensures tree { IfOk result (λ v. TreeOf (S.TreeSource.reading source.old).rows v.items) }
+    ensures none { IfErr result (λ e. (e ≡ Unfit → NoTree (S.TreeSource.reading source.old).rows)) }
     ensures rows { (S.TreeSource.reading source.new).rows ≡ (S.TreeSource.reading source.old).rows }
 {
     let mut open = OpenRows::new(heap);
@@ -118,6 +119,7 @@ fn write_rows<S: TreeSource>(heap: Global, source: &mut S) -> Result<Vec<u8>, En
 // The rows of a source, as one row within which the others lie.
 pub fn write_tree<S: TreeSource>(heap: Global, source: &mut S) -> Result<Vec<u8>, EncodeFault>
     ensures tree { IfOk result (λ v. TreeOf (S.TreeSource.reading source.old).rows v.items) }
+    ensures none { IfErr result (λ e. (e ≡ Unfit → NoTree (S.TreeSource.reading source.old).rows)) }
     ensures source { S.TreeSource.reading source.new ≡ rewound (S.TreeSource.reading source.old) }
 {
     source.rewind();
