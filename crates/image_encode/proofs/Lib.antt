@@ -10,3 +10,4 @@ pub mod Panels
 pub mod Values
 pub mod One
 pub mod Small
+pub mod Fitting

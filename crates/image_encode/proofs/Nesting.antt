@@ -67,7 +67,7 @@ forest (suc n) d (t ∷ ts) (u ∷ us) xs ys hx hy e =
     let outer = forest (suc n) d ts us xs ys hx hy inner.1 in
     ((λ i. (f i, inner.0 i) ∷ outer.0 i), outer.1)
 
-one_tree : (n d : ℕ) (t u : Tree n) → tree_rows n d t ≡ tree_rows n d u → t ≡ u
+pub one_tree : (n d : ℕ) (t u : Tree n) → tree_rows n d t ≡ tree_rows n d u → t ≡ u
 one_tree n d t u e = cons_head t u [] [] (forest n d (t ∷ []) (u ∷ []) [] [] tt tt (ap (λ k. (k ++ []) ++ []) e)).0
 
 -- panels are told by their parameters and rows

@@ -39,12 +39,12 @@ record Scopes (cs : List Content) : Type 0 where
   ts : List format.Panel
   are : cs ≡ map of_scope ss ++ (map of_function fs ++ map of_tree ts)
 
-record Sections (cs : List Content) : Type 0 where
-  is : List (ℕ × ℕ)
-  ss : List format.Scope
-  fs : List format.Function
-  ts : List format.Panel
-  are : cs ≡ arranged is ss fs ts
+pub record Sections (cs : List Content) : Type 0 where
+  pub is : List (ℕ × ℕ)
+  pub ss : List format.Scope
+  pub fs : List format.Function
+  pub ts : List format.Panel
+  pub are : cs ≡ arranged is ss fs ts
 
 not_due : {A : Type 0} → false ≡ true → A
 not_due e = absurd (cc)
@@ -70,7 +70,7 @@ scopes_first (of_scope s ∷ cs) o = let r = scopes_first cs o.1 in record { ss 
 scopes_first (of_function f ∷ cs) o = let r = functions_first cs o.1 in record { ss = []; fs = f ∷ r.fs; ts = r.ts; are = ap (λ k. of_function f ∷ k) r.are }
 scopes_first (of_tree t ∷ cs) o = let r = only_trees cs o.1 in record { ss = []; fs = []; ts = t ∷ r.ts; are = ap (λ k. of_tree t ∷ k) r.are }
 
-sections_of : (cs : List Content) → InOrder cs 0 → Sections cs
+pub sections_of : (cs : List Content) → InOrder cs 0 → Sections cs
 sections_of [] o = absurd o
 sections_of (of_identifiers is ∷ cs) o = let r = scopes_first cs o.1 in record { is = is; ss = r.ss; fs = r.fs; ts = r.ts; are = ap (λ k. of_identifiers is ∷ k) r.are }
 sections_of (of_scope x ∷ cs) o = not_due o.0.0.1

@@ -1,6 +1,7 @@
 -- Values that are written one behind the other. Assumes nothing.
-use Rattle.std.proofs.Common.{◌≡◌, ℕ, ◌+◌, ◌<◌, ◌≤◌, List, [], ◌∷◌, ◌++◌, length, get_or, take, map, sym, refl, ap, ◌∙◌, subst}
+use Rattle.std.proofs.Common.{◌≡◌, ℕ, zero, suc, ◌+◌, ◌<◌, ◌≤◌, List, [], ◌∷◌, ◌++◌, length, get_or, take, map, sym, refl, ap, ◌∙◌, subst, arith}
 use Rattle.std.proofs.lemmas.List.{take_more, take_all, map-append}
+use Rattle.hir.specs.Lists.{Each}
 use Rattle.image.specs.Layouts.{Layout}
 use Rattle.image_encode.specs.Puts.{Put, PutAll}
 use Rattle.image_encode.proofs.Writings.{end_written, each_end}
@@ -22,6 +23,18 @@ module _ {X A : Type 0} (L : Layout X) (f : A → X) (xs : List A) (i : ℕ) (st
   -- all are written
   pub put_all : length xs ≤ i → PutAll L (map f xs) start out
   put_all le = subst (λ ys. PutAll L (map f ys) start out) (take_all i xs le) inv
+
+module _ {A : Type 0} (P : A → Type 0) (xs : List A) (i : ℕ) where
+  pub each_more : (d : A) → Each P (take i xs) → i < length xs → P (get_or xs i d) → Each P (take (i + 1) xs)
+  each_more d h lt p = subst (Each P) (sym (take_more xs i d lt)) (each_end P (take i xs) (get_or xs i d) h p)
+
+  pub each_all : Each P (take i xs) → length xs ≤ i → Each P xs
+  each_all h le = subst (Each P) (take_all i xs le) h
+
+pub each_at : {A : Type 0} (P : A → Type 0) (xs : List A) (i : ℕ) (d : A) → Each P xs → i < length xs → P (get_or xs i d)
+each_at P [] i d h lt = absurd (omega arith)
+each_at P (x ∷ xs) zero d h lt = h.0
+each_at P (x ∷ xs) (suc i) d h lt = each_at P xs i d h.1 (omega arith)
 
 pub map_twice : {A B X : Type 0} (g : B → X) (f : A → B) (xs : List A) → map (λ x. g (f x)) xs ≡ map g (map f xs)
 map_twice g f [] = refl

@@ -3,4 +3,5 @@ pub mod Fields
 pub mod Opens
 pub mod Trees
 pub mod Panels
+pub mod Fits
 pub mod Values

@@ -1,8 +1,9 @@
 -- What an image says, apart from its bytes. Assumes nothing.
-use Rattle.std.specs.Prelude.{◌≡◌, ℕ, List, [], ◌∷◌, map, vec_items}
+use Rattle.std.specs.Prelude.{◌≡◌, ℕ, List, [], ◌∷◌, map, length, vec_items}
 use Rattle.hir.specs.declared.tables.Identifier.{Identifier}
 use Rattle.hir.specs.declared.tables.Scope.{Scope}
 use Rattle.hir.specs.declared.tables.Function.{Function}
+use Rattle.hir.specs.Lists.{Each}
 use Rattle.hir.specs.Spans.{part}
 use Rattle.reactive.specs.Rows.{Row}
 use Rattle.image.specs.Format.{Content, of_identifiers, of_scope, of_function, of_tree, InOrder, image_bytes}
@@ -10,7 +11,8 @@ use Rattle.image.specs.Format as format
 use Rattle.image_source.specs.Sections.{section_rows}
 use Rattle.image_tables.specs.declared.tables.Panel.{Panel}
 use Rattle.image_tables.specs.declared.tables.Tables.{Tables}
-use Rattle.image_tables.specs.Tables.{identifier_row, scope_lists, function_lists, identifiers_in, scopes_in, functions_in, HoldsImage}
+use Rattle.image_tables.specs.Tables.{Within, identifier_row, scope_lists, function_lists, identifiers_in, scopes_in, functions_in, HoldsImage}
+use Rattle.image_encode.specs.Fits.{ScopeWithin, FunctionWithin}
 use Rattle.image_encode.specs.Panels.{Lent, lent_says, panel_says}
 
 -- identifier rows, scopes and functions by their lists, and for each panel its own parameters and its rows
@@ -52,6 +54,17 @@ lent_values is ss fs pool ls = record {
   functions = map (function_lists pool) fs;
   panels = map (lent_says pool) ls;
 }
+
+-- every list lies in a pool of this length
+pub record SpansWithin (n : ℕ) (ss : List Scope) (fs : List Function) (ls : List Lent) : Type 0 where
+  pub scopes : Each (ScopeWithin n) ss
+  pub functions : Each (FunctionWithin n) fs
+  pub panels : Each (λ l. Within n l.0) ls
+
+-- the bytes are an image of such tables, whose lists lie in the pool
+pub record Encoded (is : List Identifier) (ss : List Scope) (fs : List Function) (pool : List ℕ) (ls : List Lent) (bs : List ℕ) : Type 0 where
+  pub within : SpansWithin (length pool) ss fs ls
+  pub image : ImageOf (lent_values is ss fs pool ls) bs
 
 -- own parameters from the pool, and the rows that a source over the bytes gives
 abbrev pub loaded_panel : List ℕ → Panel → List ℕ × List Row

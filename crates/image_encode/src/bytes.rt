@@ -48,7 +48,7 @@ pub fn write_list(out: &mut Vec<u8>, list: &[u32]) -> Result<(), EncodeFault>
 
 // The list of a span, which must lie in the pool.
 pub fn write_span(out: &mut Vec<u8>, pool: &[u32], span: Span) -> Result<(), EncodeFault>
-    ensures items { OnOk result (Put numbers (part pool.now span) out.old.items out.new.items) }
+    ensures items { OnOk result (Within (length pool.now) span × Put numbers (part pool.now span) out.old.items out.new.items) }
     ensures fault { IfErr result (λ e. (e ≡ Unfit → Within (length pool.now) span → ⊥)) }
 {
     if span.start as usize + span.count as usize > pool.len() {
