@@ -1,4 +1,4 @@
-// Numbers, lists and row fields, behind the bytes that are there already.
+// Numbers, lists and lengths, behind the bytes that are there already.
 ghost use Rattle.std.specs.Prelude.{◌≡◌, ℕ, ◌^◌, ◌<◌, ◌≤◌, List, ◌++◌, length, IfErr, OnOk};
 ghost use Rattle.std.specs.Iterator.{Drains, IsFinite};
 ghost use Rattle.hir.specs.Lists.{Each};
