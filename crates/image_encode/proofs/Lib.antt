@@ -9,5 +9,5 @@ pub mod Putting
 pub mod Panels
 pub mod Values
 pub mod One
-pub mod Small
 pub mod Fitting
+pub mod Small

@@ -1,5 +1,6 @@
 -- Images and values stand one to one. Assumes nothing.
-use Rattle.std.proofs.Common.{◌≡◌, ℕ, false, true, List, [], ◌∷◌, ◌++◌, map, Ok, vec_items, sym, refl, ap, ◌∙◌}
+use Rattle.std.proofs.Common.{◌≡◌, ℕ, false, true, List, [], ◌∷◌, ◌++◌, map, length, Ok, vec_items, sym, refl, ap, ◌∙◌}
+use Rattle.hir.specs.Lists.{Each}
 use Rattle.reactive.specs.Rows.{Row}
 use Rattle.image.specs.declared.fault.RowFault.{RowFault}
 use Rattle.image.specs.Format.{Content, of_identifiers, of_scope, of_function, of_tree, InOrder, image_bytes}
@@ -8,11 +9,11 @@ use Rattle.image_check.specs.Steps.{image_at}
 use Rattle.image_check.proofs.Whole.{image_finds}
 use Rattle.image_source.specs.Sections.{section_rows}
 use Rattle.image_source.proofs.Given.{gives_its_tree}
-use Rattle.image_tables.specs.Tables.{panel_part, panels_in}
-use Rattle.image_encode.specs.Panels.{panel_says}
-use Rattle.image_encode.specs.Values.{Values, trees_in, values_of, loaded_panel, OneValue, OneImage, LoadedValues}
+use Rattle.image_tables.specs.declared.tables.Panel.{Panel}
+use Rattle.image_tables.specs.Tables.{Within, panel_part, panels_in}
+use Rattle.image_encode.specs.Panels.{Lent, lent_says, panel_says}
+use Rattle.image_encode.specs.Values.{Values, trees_in, values_of, loaded, OneValue, OneImage, LoadedEncoded}
 use Rattle.image_encode.proofs.Nesting.{one_panel}
-use Rattle.image_encode.proofs.Putting.{map_twice}
 use Rattle.image_encode.proofs.Values.{arranged, arranged_says}
 
 -- bytes have the contents of one image
@@ -107,15 +108,26 @@ read_trees (of_scope x ∷ cs) stage o = read_trees cs 1 o.1
 read_trees (of_function x ∷ cs) stage o = read_trees cs 2 o.1
 read_trees (of_tree t ∷ cs) stage o = λ i. (t.0, gives_its_tree t o.0.0.0 i) ∷ read_trees cs 3 o.1 i
 
-pub values_loaded : LoadedValues
-values_loaded bs t h =
+loaded_says : (pool : List ℕ) (ps : List Panel) → map (lent_says pool) (map loaded ps) ≡ map read_panel (map (panel_part pool) ps)
+loaded_says pool [] = refl
+loaded_says pool (p ∷ ps) = ap (λ k. lent_says pool (loaded p) ∷ k) (loaded_says pool ps)
+
+loaded_within : (n : ℕ) (ps : List Panel) → Each (λ (p : Panel). Within n p.parameters) ps → Each (λ (l : Lent). Within n l.0) (map loaded ps)
+loaded_within n [] h = tt
+loaded_within n (p ∷ ps) h = (h.0, loaded_within n ps h.1)
+
+pub loaded_encoded : LoadedEncoded
+loaded_encoded bs t h =
     let pool = vec_items t.pool in
-    let panels : map panel_says (trees_in h.contents) ≡ map (loaded_panel pool) (vec_items t.panels) =
-    sym (read_trees h.contents 0 h.ordered) ∙ ap (map read_panel) (sym h.holds.panels) ∙ sym (map_twice read_panel (panel_part pool) (vec_items t.panels))
+    let panels : map panel_says (trees_in h.contents) ≡ map (lent_says pool) (map loaded (vec_items t.panels)) =
+    sym (read_trees h.contents 0 h.ordered) ∙ ap (map read_panel) (sym h.holds.panels) ∙ sym (loaded_says pool (vec_items t.panels))
     in
     record {
-      contents = h.contents;
-      ordered = h.ordered;
-      bytes = h.bytes;
-      values = λ i. record { identifiers = sym h.holds.identifiers i; scopes = sym h.holds.scopes i; functions = sym h.holds.functions i; panels = panels i };
+      within = record { scopes = h.holds.within.scopes; functions = h.holds.within.functions; panels = loaded_within (length pool) (vec_items t.panels) h.holds.within.panels };
+      image = record {
+        contents = h.contents;
+        ordered = h.ordered;
+        bytes = h.bytes;
+        values = λ i. record { identifiers = sym h.holds.identifiers i; scopes = sym h.holds.scopes i; functions = sym h.holds.functions i; panels = panels i };
+      };
     }

@@ -9,7 +9,7 @@ use Rattle.image_source.specs.Trees.{row_of, all_rows, tree_rows}
 use Rattle.image_encode.specs.Fields.{fields_of, fits_in}
 use Rattle.image_encode.specs.Trees.{TreeOf}
 use Rattle.image_encode.specs.Opens.{Closed, ClosedTo, none, more, fits_at}
-use Rattle.image_encode.proofs.Writings.{each_end}
+use Rattle.image_encode.proofs.Writings.{joined_end, each_end}
 use Rattle.image_encode.proofs.Opens.{fewer}
 use Rattle.image_encode.proofs.Fields.{and_first, and_second, row_back}
 
@@ -31,10 +31,6 @@ all_put : {A : Type 0} (g : A → List Row) (ts : List A) (t : A) → all_rows g
 all_put g [] t = append-nil (g t)
 all_put g (x ∷ ts) t = ap (λ s. g x ++ s) (all_put g ts t) ∙ sym (append_assoc (g x) (all_rows g ts) (g t))
 
-joined_put : {A : Type 0} (w : A → List ℕ) (ts : List A) (t : A) → joined w (ts ++ (t ∷ [])) ≡ joined w ts ++ w t
-joined_put w [] t = append-nil (w t)
-joined_put w (x ∷ ts) t = ap (λ s. w x ++ s) (joined_put w ts t) ∙ sym (append_assoc (w x) (joined w ts) (w t))
-
 cast : {k n : ℕ} {rows rows' : List Row} {top top' : List ℕ} {below below' : List (List ℕ)} → rows ≡ rows' → top ≡ top' → below ≡ below' → Partial k n rows top below → Partial k n rows' top' below'
 cast {k} {n} {rows} {rows'} {top} {top'} {below} {below'} e f g p = subst (λ b. Partial k n rows' top' b) g (subst (λ t. Partial k n rows' t below) f (subst (λ r. Partial k n r top below) e p))
 
@@ -42,11 +38,11 @@ cast {k} {n} {rows} {rows'} {top} {top'} {below} {below'} e f g p = subst (λ b.
 put : {k n : ℕ} {rows : List Row} {top : List ℕ} {below : List (List ℕ)} → Partial k n rows top below → (t : Tree n) → (row n).Fine t → Partial k n (rows ++ tree_rows n k t) (top ++ (row n).write t) below
 put (root f ts h hs) t g =
     cast (ap (λ s. row_of 0 f ∷ s) (all_put (tree_rows 127 1) ts t))
-    (ap (λ s. fields.write f ++ s) (joined_put (row 127).write ts t) ∙ sym (append_assoc (fields.write f) (joined (row 127).write ts) ((row 127).write t))) refl
+    (ap (λ s. fields.write f ++ s) (joined_end (row 127).write ts t) ∙ sym (append_assoc (fields.write f) (joined (row 127).write ts) ((row 127).write t))) refl
     (root f (ts ++ (t ∷ [])) h (each_end (row 127).Fine ts t hs g))
 put (inside {k} {n} {rows} p f ts h hs) t g =
     cast (ap (λ s. rows ++ (row_of k f ∷ s)) (all_put (tree_rows n (suc k)) ts t) ∙ sym (append_assoc rows (row_of k f ∷ all_rows (tree_rows n (suc k)) ts) (tree_rows n (suc k) t)))
-    (ap (λ s. fields.write f ++ s) (joined_put (row n).write ts t) ∙ sym (append_assoc (fields.write f) (joined (row n).write ts) ((row n).write t))) refl
+    (ap (λ s. fields.write f ++ s) (joined_end (row n).write ts t) ∙ sym (append_assoc (fields.write f) (joined (row n).write ts) ((row n).write t))) refl
     (inside p f (ts ++ (t ∷ [])) h (each_end (row n).Fine ts t hs g))
 
 last_of : List (List ℕ) → List ℕ

@@ -9,7 +9,7 @@ use Rattle.image.specs.Layouts.{numbers}
 use Rattle.image_encode.specs.Puts.{Put}
 
 module _ {X : Type 0} (write : X → List ℕ) where
-  joined_end : (xs : List X) (x : X) → joined write (xs ++ (x ∷ [])) ≡ joined write xs ++ write x
+  pub joined_end : (xs : List X) (x : X) → joined write (xs ++ (x ∷ [])) ≡ joined write xs ++ write x
   joined_end [] x = append-nil (write x)
   joined_end (y ∷ ys) x = ap (λ t. write y ++ t) (joined_end ys x) ∙ sym (append_assoc (write y) (joined write ys) (write x))
 

@@ -4,8 +4,7 @@ use Rattle.hir.specs.declared.tables.Identifier.{Identifier}
 use Rattle.hir.specs.declared.tables.Scope.{Scope}
 use Rattle.hir.specs.declared.tables.Function.{Function}
 use Rattle.hir.specs.Lists.{Each}
-use Rattle.hir.specs.Spans.{part}
-use Rattle.reactive.specs.Rows.{Row}
+use Rattle.reactive.specs.Rows.{Row, at_place}
 use Rattle.image.specs.Format.{Content, of_identifiers, of_scope, of_function, of_tree, InOrder, image_bytes}
 use Rattle.image.specs.Format as format
 use Rattle.image_source.specs.Sections.{section_rows}
@@ -61,23 +60,10 @@ pub record SpansWithin (n : ℕ) (ss : List Scope) (fs : List Function) (ls : Li
   pub functions : Each (FunctionWithin n) fs
   pub panels : Each (λ l. Within n l.0) ls
 
--- the bytes are an image of such tables, whose lists lie in the pool
+-- the bytes are an image of tables and panels, whose lists lie in the pool
 pub record Encoded (is : List Identifier) (ss : List Scope) (fs : List Function) (pool : List ℕ) (ls : List Lent) (bs : List ℕ) : Type 0 where
   pub within : SpansWithin (length pool) ss fs ls
   pub image : ImageOf (lent_values is ss fs pool ls) bs
-
--- own parameters from the pool, and the rows that a source over the bytes gives
-abbrev pub loaded_panel : List ℕ → Panel → List ℕ × List Row
-loaded_panel pool p = (part pool p.parameters, section_rows p.content.now)
-
--- the values of tables that were loaded
-abbrev pub loaded_values : Tables → Values
-loaded_values t = record {
-  identifiers = map identifier_row (vec_items t.identifiers);
-  scopes = map (scope_lists (vec_items t.pool)) (vec_items t.scopes);
-  functions = map (function_lists (vec_items t.pool)) (vec_items t.functions);
-  panels = map (loaded_panel (vec_items t.pool)) (vec_items t.panels);
-}
 
 -- an image has one meaning: what is encoded and loaded again is the same
 abbrev pub OneValue : Type 0
@@ -87,6 +73,10 @@ OneValue = (v w : Values) (bs : List ℕ) → ImageOf v bs → ImageOf w bs → 
 abbrev pub OneImage : Type 0
 OneImage = (v : Values) (bs cs : List ℕ) → ImageOf v bs → ImageOf v cs → bs ≡ cs
 
--- tables that hold an image have its values
-abbrev pub LoadedValues : Type 0
-LoadedValues = (bs : List ℕ) (t : Tables) → HoldsImage bs t → ImageOf (loaded_values t) bs
+-- own parameters that were loaded, and the source over their section at its start
+abbrev pub loaded : Panel → Lent
+loaded p = (p.parameters, at_place (section_rows p.content.now) 0)
+
+-- the image that tables hold is an image of them, with the sources over their sections
+abbrev pub LoadedEncoded : Type 0
+LoadedEncoded = (bs : List ℕ) (t : Tables) → HoldsImage bs t → Encoded (vec_items t.identifiers) (vec_items t.scopes) (vec_items t.functions) (vec_items t.pool) (map loaded (vec_items t.panels)) bs

@@ -1,5 +1,5 @@
 // Images and values stand one to one.
-ghost use Rattle.image_encode.specs.Values.{OneValue, OneImage, LoadedValues};
+ghost use Rattle.image_encode.specs.Values.{OneValue, OneImage, LoadedEncoded};
 
 // What is encoded and loaded again is the same tables, parameters and rows.
 pub fn images_have_one_meaning()
@@ -11,7 +11,7 @@ pub fn values_have_one_image()
     ensures { OneImage }
 {}
 
-// Tables that were loaded have the values of their image, and the source over each tree gives its rows.
-pub fn loaded_tables_have_the_values()
-    ensures { LoadedValues }
+// Loaded tables, with the sources over their trees, have the bytes that they were loaded from as their image.
+pub fn loaded_tables_have_their_image()
+    ensures { LoadedEncoded }
 {}
