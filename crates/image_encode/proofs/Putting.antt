@@ -20,10 +20,6 @@ module _ {X A : Type 0} (L : Layout X) (f : A → X) (xs : List A) (i : ℕ) (st
       subst (λ ys. PutAll L ys start out') (sym (ap (map f) (take_more xs i d lt) ∙ map-append f (take i xs) (get_or xs i d ∷ [])))
       (put_end L (map f (take i xs)) (f (get_or xs i d)) start out out' inv p)
 
-  -- all are written
-  pub put_all : length xs ≤ i → PutAll L (map f xs) start out
-  put_all le = subst (λ ys. PutAll L (map f ys) start out) (take_all i xs le) inv
-
 module _ {A : Type 0} (P : A → Type 0) (xs : List A) (i : ℕ) where
   pub each_more : (d : A) → Each P (take i xs) → i < length xs → P (get_or xs i d) → Each P (take (i + 1) xs)
   each_more d h lt p = subst (Each P) (sym (take_more xs i d lt)) (each_end P (take i xs) (get_or xs i d) h p)

@@ -41,9 +41,6 @@ module _ (first s t : Reading) (top : List ℕ) (below : List (List ℕ)) (inv :
     row = sym (gives s row gave).is ∙ ap head (sym last_is);
   }
 
-  pub shrinks : length (left t) < length (left s)
-  shrinks = let e = ap length (gives s row gave).rest in omega (arith, ap (λ r. length (left r)) on)
-
   pub turn : (height : ℕ) → height ≡ length below → true ≡ fits_at height row → (r : Row) → r ≡ last_row t → (mid top' : List ℕ) (midst below' : List (List ℕ)) → ClosedTo top below mid midst → length midst ≡ min height row.depth → Entered r mid midst top' below' → Writing first t top' below'
   turn height many fits r is mid top' midst below' c len e =
       let at : row ≡ head r = row_given.row ∙ ap head (sym is) in

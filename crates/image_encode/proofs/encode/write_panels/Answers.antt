@@ -10,9 +10,6 @@ returns-in_err-write_panel-clause-rows g c = panel_rows g.S.TreeSource.reading _
 pub loop-i-preserved : goal.loop-i-preserved
 loop-i-preserved g c = panel_more g.S.TreeSource.reading _ _ _ _ _ _ c.loop-i.invariant c.index-panels-i.result c.write_panel.new.panel c.write_panel.ensures.panel _ (omega arith) c.in_ok-write_panel.ensures.items
 
-pub returns-clause-items : goal.returns-clause-items
-returns-clause-items g c = let w = all_written g.S.TreeSource.reading _ _ _ _ _ _ c.loop-i.invariant (omega arith) in (w.1, w.2)
-
 pub returns-clause-rewound : goal.returns-clause-rewound
 returns-clause-rewound g c = (all_written g.S.TreeSource.reading _ _ _ _ _ _ c.loop-i.invariant (omega arith)).0
 

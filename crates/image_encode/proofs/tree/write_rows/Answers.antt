@@ -11,9 +11,6 @@ loop-row-init g c = rows.start _ c.requires _ _ c.new-open.ensures.top c.new-ope
 pub new-requires : goal.new-requires
 new-requires g c = rows.row_given _ _ _ _ _ c.loop-row.invariant c.in-Some.row c.in-Some.ensures.value c.next.ensures.after
 
-pub loop-row-smaller : goal.loop-row-smaller
-loop-row-smaller g c = rows.shrinks _ _ _ _ _ c.loop-row.invariant c.in-Some.row c.in-Some.ensures.value c.next.ensures.after
-
 many : (rows : Vec (Vec ℕ Global) Global) → vec_len rows ≡ length (map vec_items (vec_items rows))
 many rows = omega (arith, rows.ok.0, length-map (vec_items rows) vec_items)
 
