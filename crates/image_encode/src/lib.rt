@@ -1,11 +1,11 @@
 // Images made from tables and rows.
 #![tactic(auto)]
 
-mod bytes;
+pub mod bytes;
 pub mod encode;
 pub mod fault;
 pub mod panel;
 pub mod promise;
-mod row;
+pub mod row;
 mod section;
 pub mod tree;
