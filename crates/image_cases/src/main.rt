@@ -1,6 +1,10 @@
-// Checks the images of standard input, a line for each: a name, and the bytes in hexadecimal. Prints for each what the check answers.
+// Checks the images of standard input, a line for each: a name, and the bytes in hexadecimal. Prints what the check answers,
+// and of an image also whether what is loaded from it and encoded again has the same bytes.
 #![tactic(auto)]
 
+mod again;
+
+use again::is_encoded_alike;
 use hex::FromHexError;
 use image_check::check::check_image;
 use report::fault::Fault;
@@ -15,7 +19,8 @@ fn check_line(rt: &HostRuntime, line: &str) -> Result<(), Fault> {
         _ => Fault::Line,
     })?;
     match check_image(&image) {
-        Ok(()) => println!(rt; "{name}: an image")?,
+        Ok(()) if is_encoded_alike(rt.alloc(), &image)? => println!(rt; "{name}: an image")?,
+        Ok(()) => println!(rt; "{name}: an image, but encoded otherwise")?,
         Err(fault) => println!(rt;
             "{name}: fault {} at byte {}, layer {}",
             fault.cause().number(),
