@@ -1,18 +1,28 @@
-# The two commands of this repository. Both need only the kit's `rt` on the path.
+# The commands of this repository. They need only the kit's `rt` on the path.
 KIT := rattle-kit-13f logic dac8208d650f15bf
+IMAGE := crates/account/stdin
 
-.PHONY: run test kit
+.PHONY: run dump panel test kit
 
-# Proves what the program stands on, builds it, and prints the account of a panel.
+# Proves what the program stands on, builds it, and prints the account of an image.
 run: kit
-	@cd crates/panel && { rt run > build.log 2>&1 || { cat build.log; rm -f build.log; exit 1; }; }
-	@rm -f crates/panel/build.log
-	@crates/panel/out/panel
+	@$(call built,account) < $(IMAGE)
 
-# Proves everything, tries the edits that must be refused, runs the programs and the tests.
+# Prints an image, so that it can be read.
+dump: kit
+	@$(call built,dump) < $(IMAGE)
+
+# Prints the account of a panel whose tables stand in the code.
+panel: kit
+	@$(call built,panel)
+
+# Tries what must be refused, proves everything, and runs the programs and the tests.
 test: kit
 	@tools/gate
 
 kit:
 	@command -v rt > /dev/null || { echo "no rt on the path: install $(KIT)"; exit 1; }
 	@[ "$$(rt version)" = "$(KIT)" ] || echo "note: proved with $(KIT), and this is $$(rt version)"
+
+# The program of a crate, built; what is printed on the way is shown only where it fails.
+built = tools/build $(1) && crates/$(1)/out/$(1)
