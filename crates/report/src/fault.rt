@@ -7,7 +7,7 @@ use thiserror::Error;
 pub enum Fault {
     #[error("memory\tthere is too little")]
     Memory(#[from(alloc)] AllocError),
-    #[error("stream\tinput or output failed")]
+    #[error("stream\t{0}")]
     Stream(#[from] io::Error),
     #[error("line\ta line of the input has another form")]
     Line,
