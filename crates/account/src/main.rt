@@ -2,8 +2,6 @@
 // a line for each thing and a tab between two parts of a line, so that a script can cut it.
 #![tactic(auto)]
 
-mod session;
-
 use calls::run::run;
 use hir::environment::Environment;
 use image_source::source::ImageSource;
@@ -13,7 +11,7 @@ use report::fault::Fault;
 use report::faults::print_load_fault;
 use report::names::print_name;
 use report::words::{reason_words, refusal_words};
-use session::Session;
+use session::session::Session;
 use std::io;
 use std::io::Read;
 use std::process::ExitCode;

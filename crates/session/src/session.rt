@@ -4,8 +4,7 @@ use hir::ids::IdentifierId;
 use hir::scratch::{Scratch, Trail, Work};
 use hir::tables::{JournalRow, Reason};
 use image_tables::tables::{Panel, Tables};
-use report::fault::Fault;
-use std::alloc::Global;
+use std::alloc::{AllocError, Global};
 
 // The fewest bytes that a row takes in an image: one without operands, marks and rows within it.
 const ROW_BYTES: usize = 23;
@@ -13,6 +12,7 @@ const ROW_BYTES: usize = 23;
 // A run refuses a tree of more rows.
 const MOST_ROWS: usize = 262144;
 
+// The journal has free rows, of which `count` are in use, as calls want it.
 #[derive(Drop)]
 pub struct Session {
     journal: Vec<JournalRow>,
@@ -30,7 +30,7 @@ fn most_rows(panels: &[Panel]) -> usize {
 
 impl Session {
     // An empty journal, and scratch for every tree of the tables.
-    pub fn new(heap: Global, tables: &Tables) -> Result<Session, Fault> {
+    pub fn new(heap: Global, tables: &Tables) -> Result<Session, AllocError> {
         let identifiers = tables.identifiers.len();
         Ok(Session {
             journal: vec![in heap; JournalRow {

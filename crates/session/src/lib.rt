@@ -1,0 +1,4 @@
+// Runs over the trees of one image, with memory of their own.
+#![tactic(auto)]
+
+pub mod session;
