@@ -2,7 +2,9 @@
 KIT := rattle-kit-13f logic dac8208d650f15bf
 IMAGE := crates/account/stdin
 
-.PHONY: run dump panel test kit
+REFERENCE := ../shared/reference
+
+.PHONY: run dump panel judge test kit
 
 # Proves what the program stands on, builds it, and prints the account of an image.
 run: kit
@@ -15,6 +17,11 @@ dump: kit
 # Prints the account of a panel whose tables stand in the code.
 panel: kit
 	@$(call built,panel)
+
+# Compares names and journals with those of the published Rust files, which lie in a folder of their own.
+judge: kit
+	@tools/build replay
+	@RUST_REFERENCE=$(REFERENCE) judge/run bounded "$(CURDIR)/crates/replay/out/replay"
 
 # Tries what must be refused, proves everything, and runs the programs and the tests.
 test: kit

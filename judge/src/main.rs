@@ -101,7 +101,7 @@ fn all_short(program: Vec<String>) {
 /// Checks that the recorded answers are those of the Rust and of the model.
 fn verify(folder: &Path) {
     let file = |name: &str| std::fs::read_to_string(folder.join(name)).expect("a recorded file");
-    let (inputs, answers) = (file("inputs.txt"), file("answers.txt"));
+    let (inputs, answers) = (file("stdin"), file("stdout"));
     assert_eq!(inputs.lines().count(), answers.lines().count(), "as many answers as inputs");
     for (at, (line, answer)) in inputs.lines().zip(answers.lines()).enumerate() {
         let input = read(line).expect("a recorded image");

@@ -33,7 +33,7 @@ struct Selection {
     plain: Vec<Input>,
 }
 
-/// Writes `inputs.txt`, `answers.txt` and `coverage.txt` into a folder.
+/// Writes `stdin`, `stdout` (the inputs and their answers) and `coverage.txt` into a folder.
 pub fn write(folder: &Path) {
     let mut selection = Selection::new();
     for seed in FIRST_SEED..FIRST_SEED + MOST_SEEDS {
@@ -133,7 +133,7 @@ fn save(folder: &Path, inputs: &[Input], changes: &[Change]) {
     }
     let coverage = coverage(inputs.len(), changes, &places);
     for (name, text) in
-        [("inputs.txt", lines), ("answers.txt", answers), ("coverage.txt", coverage)]
+        [("stdin", lines), ("stdout", answers), ("coverage.txt", coverage)]
     {
         fs::write(folder.join(name), text).expect("the folder can be written");
     }
