@@ -80,3 +80,15 @@ loaded p = (p.parameters, at_place (section_rows p.content.now) 0)
 -- the image that tables hold is an image of them, with the sources over their sections
 abbrev pub LoadedEncoded : Type 0
 LoadedEncoded = (bs : List ℕ) (t : Tables) → HoldsImage bs t → Encoded (vec_items t.identifiers) (vec_items t.scopes) (vec_items t.functions) (vec_items t.pool) (map loaded (vec_items t.panels)) bs
+
+-- what tables hold that were loaded
+abbrev pub loaded_values : Tables → Values
+loaded_values t = lent_values (vec_items t.identifiers) (vec_items t.scopes) (vec_items t.functions) (vec_items t.pool) (map loaded (vec_items t.panels))
+
+-- what is loaded from an image that was encoded holds what was encoded
+abbrev pub EncodedLoaded : Type 0
+EncodedLoaded = (is : List Identifier) (ss : List Scope) (fs : List Function) (pool : List ℕ) (ls : List Lent) (bs : List ℕ) (t : Tables) → Encoded is ss fs pool ls bs → HoldsImage bs t → loaded_values t ≡ lent_values is ss fs pool ls
+
+-- what is encoded of loaded tables, with the sources over their sections, is the bytes that they were loaded from
+abbrev pub LoadedAgain : Type 0
+LoadedAgain = (bs cs : List ℕ) (t : Tables) → HoldsImage bs t → Encoded (vec_items t.identifiers) (vec_items t.scopes) (vec_items t.functions) (vec_items t.pool) (map loaded (vec_items t.panels)) cs → cs ≡ bs
