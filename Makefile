@@ -4,7 +4,7 @@ IMAGE := crates/account/stdin
 
 REFERENCE := ../shared/reference
 
-.PHONY: run dump panel judge test kit
+.PHONY: run dump panel judge bench test kit
 
 # Proves what the program stands on, builds it, and prints the account of an image.
 run: kit
@@ -22,6 +22,11 @@ panel: kit
 judge: kit
 	@tools/build replay
 	@RUST_REFERENCE=$(REFERENCE) judge/run bounded "$(CURDIR)/crates/replay/out/replay"
+
+# Times runs of both on the same images.
+bench: kit
+	@tools/build timing
+	@RUST_REFERENCE=$(REFERENCE) judge/run bench "$(CURDIR)/crates/timing/out/timing"
 
 # Tries what must be refused, proves everything, and runs the programs and the tests.
 test: kit
