@@ -26,7 +26,7 @@ judge: kit
 # Times runs of both on the same images.
 bench: kit
 	@tools/build timing
-	@RUST_REFERENCE=$(REFERENCE) judge/run bench "$(CURDIR)/crates/timing/out/timing"
+	@RUST_REFERENCE=$(REFERENCE) judge/run bench "$(CURDIR)/crates/timing/out/timing" docs/speed.svg
 
 # Tries what must be refused, proves everything, and runs the programs and the tests.
 test: kit

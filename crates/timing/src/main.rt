@@ -1,12 +1,16 @@
-// Times runs over the first tree of the image that standard input holds: prints the nanoseconds of the best, and the rows of the tree.
+// Times runs over the first tree of the image that standard input holds, as a table of rows: prints the nanoseconds of the best,
+// and the rows of the tree.
 #![tactic(auto)]
 
 use calls::run::run;
+use hir::span::Span;
 use hir::tables::Identifier;
 use image_source::source::ImageSource;
 use image_tables::load::load;
 use image_tables::tables::Tables;
+use reactive::given::{GivenRow, Identifiers};
 use reactive::source::TreeSource;
+use reactive::table::{RowEntry, TableSource};
 use report::fault::Fault;
 use session::session::Session;
 use std::io::Read;
@@ -22,7 +26,7 @@ fn time_run(
     rt: &HostRuntime,
     tables: &mut Tables,
     session: &mut Session,
-    source: &mut ImageSource,
+    source: &mut TableSource,
     before: &[Identifier],
 ) -> Result<u128, Fault> {
     let Some(panel) = tables.panels.first().copied() else {
@@ -46,7 +50,7 @@ fn best_of(
     rt: &HostRuntime,
     tables: &mut Tables,
     session: &mut Session,
-    source: &mut ImageSource,
+    source: &mut TableSource,
 ) -> Result<u128, Fault> {
     let before = tables.identifiers.clone()?;
     let started = Instant::now(rt)?;
@@ -60,15 +64,44 @@ fn best_of(
     Ok(best)
 }
 
-// How many rows a source has.
-fn count_rows(source: &mut ImageSource) -> usize {
-    source.rewind();
-    for rows in 0..usize::MAX {
-        if source.next().is_none() {
-            return rows;
-        }
+// The numbers of a list behind those of the pool.
+fn add_list<S: TreeSource>(pool: &mut Vec<u32>, ids: Identifiers<S>) -> Result<Span, Fault> {
+    let start = pool.len();
+    for id in ids {
+        pool.push(id.0)?;
     }
-    usize::MAX
+    Ok(Span {
+        start: u32::try_from(start).map_err(|_| Fault::Line)?,
+        count: u32::try_from(pool.len().saturating_sub(start)).map_err(|_| Fault::Line)?,
+    })
+}
+
+// The rows of a source as a table, whose lists go behind the pool.
+fn tabled<S: TreeSource>(
+    rt: &HostRuntime,
+    source: &mut S,
+    pool: &mut Vec<u32>,
+) -> Result<Vec<RowEntry>, Fault> {
+    let mut rows = Vec::new(rt.alloc());
+    source.rewind();
+    for _ in 0..usize::MAX {
+        let Some(head) = source.next() else {
+            break;
+        };
+        let row = GivenRow::new(head, source);
+        rows.push(RowEntry {
+            depth: head.depth,
+            code: head.code,
+            identifier: head.identifier,
+            number: head.number,
+            kind: head.kind,
+            mode: head.mode,
+            operands: add_list(pool, row.operands())?,
+            marks: add_list(pool, row.marks())?,
+        })?;
+    }
+    source.rewind();
+    Ok(rows)
 }
 
 // Times the runs, and counts the rows.
@@ -82,8 +115,10 @@ fn time_image(rt: &HostRuntime) -> Result<(), Fault> {
         return Err(Fault::Line);
     };
     let mut session = Session::new(rt.alloc(), &tables)?;
-    let mut source = ImageSource::new(panel.content);
-    let rows = count_rows(&mut source);
+    let mut pool = Vec::new(rt.alloc());
+    let entries = tabled(rt, &mut ImageSource::new(panel.content), &mut pool)?;
+    let mut source = TableSource::new(&entries, &pool);
+    let rows = entries.len();
     let best = best_of(rt, &mut tables, &mut session, &mut source)?;
     println!(rt; "{best} {rows}")?;
     Ok(())
