@@ -2,9 +2,7 @@
 // a line for each thing and a tab between two parts of a line, so that a script can cut it.
 #![tactic(auto)]
 
-use calls::run::run;
 use hir::environment::Environment;
-use image_source::source::ImageSource;
 use image_tables::load::load;
 use image_tables::tables::Tables;
 use report::fault::Fault;
@@ -36,12 +34,10 @@ fn account_of(
     let Some(panel) = tables.panels.get(place).copied() else {
         return Ok(());
     };
-    let mut source = ImageSource::new(panel.content);
-    let (mut env, mut scratch) = session.lend(tables);
-    let answer = run(&mut env, &mut scratch, &mut source, panel.parameters);
-    match answer {
+    match session.run(tables, panel) {
         Ok((first, count)) => {
             println!(rt; "ran\t{place}\t{count}")?;
+            let (env, _) = session.lend(tables);
             print_named(rt, &env, place, first)?;
         }
         Err(refusal) => println!(rt;
@@ -50,7 +46,6 @@ fn account_of(
             refusal_words(refusal)
         )?,
     }
-    session.count = env.count;
     Ok(())
 }
 

@@ -1,10 +1,8 @@
 // Answers the images of standard input, a line for each in hexadecimal: the tags after each run, and the rows that it journalled.
 #![tactic(auto)]
 
-use calls::run::run;
 use hex::FromHexError;
 use hir::environment::Environment;
-use image_source::source::ImageSource;
 use image_tables::load::load;
 use image_tables::tables::Tables;
 use report::fault::Fault;
@@ -41,13 +39,13 @@ fn answer_run(
     let Some(panel) = tables.panels.get(place).copied() else {
         return Ok(());
     };
-    let mut source = ImageSource::new(panel.content);
-    let (mut env, mut scratch) = session.lend(tables);
-    match run(&mut env, &mut scratch, &mut source, panel.parameters) {
-        Ok((first, _)) => print_run(rt, &env, first)?,
+    match session.run(tables, panel) {
+        Ok((first, _)) => {
+            let (env, _) = session.lend(tables);
+            print_run(rt, &env, first)?;
+        }
         Err(refusal) => print!(rt; "refused {}", refusal.number())?,
     }
-    session.count = env.count;
     Ok(())
 }
 

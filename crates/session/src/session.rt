@@ -1,8 +1,11 @@
 // What runs write besides the tables of their image: a journal and scratch, which last from run to run.
+use calls::run::run;
 use hir::environment::Environment;
 use hir::ids::IdentifierId;
+use hir::refusal::Refusal;
 use hir::scratch::{Scratch, Trail, Work};
 use hir::tables::{JournalRow, Reason};
+use image_source::source::ImageSource;
 use image_tables::tables::{Panel, Tables};
 use std::alloc::{AllocError, Global};
 
@@ -16,7 +19,7 @@ const MOST_ROWS: usize = 262144;
 #[derive(Drop)]
 pub struct Session {
     journal: Vec<JournalRow>,
-    pub count: usize,
+    count: usize,
     work: Vec<Work>,
     marks: Vec<bool>,
     trail: Vec<Trail>,
@@ -61,5 +64,15 @@ impl Session {
             trail: &mut self.trail,
         };
         (env, scratch)
+    }
+
+    // Runs over a tree of the tables, straight from its bytes: the place of the first new journal row and their count.
+    pub fn run(&mut self, tables: &mut Tables, panel: Panel) -> Result<(usize, usize), Refusal> {
+        let mut source = ImageSource::new(panel.content);
+        let (mut env, mut scratch) = self.lend(tables);
+        let answer = run(&mut env, &mut scratch, &mut source, panel.parameters);
+        let count = env.count;
+        self.count = count;
+        answer
     }
 }
