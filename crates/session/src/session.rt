@@ -1,4 +1,8 @@
 // What runs write besides the tables of their image: a journal and scratch, which last from run to run.
+ghost use Rattle.std.specs.Prelude.{◌≡◌};
+ghost use Rattle.hir.specs.Environments.{model};
+ghost use Rattle.hir.specs.Scratches.{noted};
+
 use calls::run::run;
 use hir::environment::Environment;
 use hir::ids::IdentifierId;
@@ -48,7 +52,21 @@ impl Session {
     }
 
     // The environment of the tables with this journal, and the scratch, lent to a run.
-    pub fn lend<'a>(&'a mut self, tables: &'a mut Tables) -> (Environment<'a>, Scratch<'a>) {
+    pub fn lend<'a>(&'a mut self, tables: &'a mut Tables) -> (Environment<'a>, Scratch<'a>)
+        ensures env { model result.0 ≡ record {
+          identifiers = tables.old.identifiers.items;
+          scopes = tables.old.scopes.items;
+          functions = tables.old.functions.items;
+          pool = tables.old.pool.items;
+          journal = self.old.journal.items;
+          count = self.old.count;
+        } }
+        ensures scratch { noted result.1 ≡ record {
+          work = self.old.work.items;
+          marks = self.old.marks.items;
+          trail = self.old.trail.items;
+        } }
+    {
         let count = self.count;
         let mut env = Environment::new(
             &mut tables.identifiers,
