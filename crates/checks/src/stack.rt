@@ -7,7 +7,7 @@ ghost use Rattle.checks.specs.Grammar.{lacking};
 ghost use Rattle.checks.specs.Rows.{wrong_depth, closing, placed, opened, unplaced, ended};
 
 use crate::grammar::{Slot, children, follow, lacking};
-use arrayvec::ArrayVec;
+use fixed_stack::FixedStack;
 use hir::refusal::Refusal;
 use hir::span::MOST_OPEN;
 use reactive::code::Code;
@@ -16,7 +16,7 @@ use std::marker::Model;
 // The open rows, outermost first, each as the places that it has left.
 #[derive(Drop)]
 pub struct Stack {
-    rows: ArrayVec<&'static [Slot], MOST_OPEN>,
+    rows: FixedStack<&'static [Slot], MOST_OPEN>,
 }
 
 impl Model for Stack {
@@ -25,7 +25,7 @@ impl Model for Stack {
 
     ghost Value = { List (List Slot) };
 
-    ghost view = { λ s. reverse (map (λ x. x.now) s.rows.items) };
+    ghost view = { λ s. reverse (map (λ x. x.now) s.rows) };
 }
 
 impl Stack {
@@ -34,7 +34,7 @@ impl Stack {
         ensures { result ≡ [] }
     {
         Stack {
-            rows: ArrayVec::new(),
+            rows: FixedStack::new(),
         }
     }
 

@@ -6,7 +6,7 @@ ghost use Rattle.reactive.specs.Rows.{Reading, rewound};
 ghost use Rattle.walk.specs.Events.{whole, events, closing, Allowed, Shallow};
 
 use crate::visitor::Visitor;
-use arrayvec::ArrayVec;
+use fixed_stack::FixedStack;
 use hir::environment::Environment;
 use hir::scratch::Scratch;
 use hir::span::MOST_OPEN;
@@ -16,15 +16,15 @@ use reactive::source::TreeSource;
 
 // Leaves the open rows from a depth on, innermost first: in this order `pop` takes them, which a drain would have to turn.
 fn close<V: Visitor>(
-    opened: &mut ArrayVec<RowHead, MOST_OPEN>,
+    opened: &mut FixedStack<RowHead, MOST_OPEN>,
     depth: usize,
     visitor: &mut V,
     env: &mut Environment,
     scratch: &mut Scratch,
 )
-    requires { Allowed V.Visitor.can V.Visitor.after (whole visitor.old (tables env.old scratch.old)) (closing depth (reverse opened.old.items)) }
-    ensures rows { opened.new.items ≡ take depth opened.old.items }
-    ensures after { whole visitor.new (tables env.new scratch.new) ≡ fold V.Visitor.after (whole visitor.old (tables env.old scratch.old)) (closing depth (reverse opened.old.items)) }
+    requires { Allowed V.Visitor.can V.Visitor.after (whole visitor.old (tables env.old scratch.old)) (closing depth (reverse opened.old)) }
+    ensures rows { opened.new ≡ take depth opened.old }
+    ensures after { whole visitor.new (tables env.new scratch.new) ≡ fold V.Visitor.after (whole visitor.old (tables env.old scratch.old)) (closing depth (reverse opened.old)) }
 {
     while opened.len() > depth {
         if let Some(row) = opened.pop() {
@@ -45,7 +45,7 @@ pub fn walk<S: TreeSource, V: Visitor>(
     ensures after { whole visitor.new (tables env.new scratch.new) ≡ fold V.Visitor.after (whole visitor.old (tables env.old scratch.old)) (events [] (S.TreeSource.reading source.old).rows) }
     ensures source { S.TreeSource.reading source.new ≡ rewound (S.TreeSource.reading source.old) }
 {
-    let mut opened: ArrayVec<RowHead, MOST_OPEN> = ArrayVec::new();
+    let mut opened: FixedStack<RowHead, MOST_OPEN> = FixedStack::new();
     source.rewind();
     while let Some(row) = source.next() {
         close(&mut opened, row.depth as usize, visitor, env, scratch);

@@ -20,26 +20,26 @@ new-requires g c =
 
 pub enter-requires : goal.enter-requires
 enter-requires g c =
-    let mid = c.close.new.opened.items in
+    let mid = c.close.new.opened in
     let last = c.copied-parent.ensures ∙ c.last.ensures.value ∙ ap (λ rs. slice_get rs (length rs - 1)) c.deref.ensures.0 in
     subst (λ r. g.V.Visitor.can (whole c.close.new.visitor (tables c.close.new.env c.close.new.scratch)) (entering c.copied-parent.result r)) (sym c.new.ensures)
-    (may_enter _ _ _ _ _ _ _ _ c.loop-row.invariant c.in-Some.row c.in-Some.ensures.value c.next.ensures.after _ _ c.close.ensures.after (parent_last c.loop-row.opened.items mid c.in-Some.row.depth _ c.close.ensures.rows last))
+    (may_enter _ _ _ _ _ _ _ _ c.loop-row.invariant c.in-Some.row c.in-Some.ensures.value c.next.ensures.after _ _ c.close.ensures.after (parent_last c.loop-row.opened mid c.in-Some.row.depth _ c.close.ensures.rows last))
 
 pub push-requires : goal.push-requires
 push-requires g c =
     let d = deep _ _ _ _ _ _ _ _ c.loop-row.invariant c.in-Some.row c.in-Some.ensures.value c.next.ensures.after in
-    (omega arith, omega (arith, d, ap length c.close.ensures.rows, length-take c.in-Some.row.depth c.loop-row.opened.items))
+    (omega arith, omega (arith, d, ap length c.close.ensures.rows, length-take c.in-Some.row.depth c.loop-row.opened))
 
 pub loop-row-smaller : goal.loop-row-smaller
 loop-row-smaller g c = shrinks _ _ _ _ _ _ _ _ c.loop-row.invariant c.in-Some.row c.in-Some.ensures.value c.next.ensures.after
 
 pub loop-row-preserved : goal.loop-row-preserved
 loop-row-preserved g c =
-    let rs = c.loop-row.opened.items in
-    let mid = c.close.new.opened.items in
+    let rs = c.loop-row.opened in
+    let mid = c.close.new.opened in
     let last = c.copied-parent.ensures ∙ c.last.ensures.value ∙ ap (λ xs. slice_get xs (length xs - 1)) c.deref.ensures.0 in
     let on = c.enter.ensures ∙ ap (λ r. g.V.Visitor.after (whole c.close.new.visitor (tables c.close.new.env c.close.new.scratch)) (entering c.copied-parent.result r)) c.new.ensures in
-    subst (Walking _ _ _ _ _ _) (entered rs mid c.push.new.self.items c.in-Some.row.depth c.in-Some.row c.close.ensures.rows c.push.ensures.items)
+    subst (Walking _ _ _ _ _ _) (entered rs mid c.push.new.self c.in-Some.row.depth c.in-Some.row c.close.ensures.rows c.push.ensures)
     (walked _ _ _ _ _ _ _ _ c.loop-row.invariant c.in-Some.row c.in-Some.ensures.value c.next.ensures.after _ _ c.close.ensures.after (parent_last rs mid c.in-Some.row.depth _ c.close.ensures.rows last) _ on)
 
 pub close-requires-2 : goal.close-requires-2

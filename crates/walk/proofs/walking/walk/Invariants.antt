@@ -12,7 +12,7 @@ invariant-loop-row g l =
     (whole l.visitor (tables l.env l.scratch))
     (g.S.TreeSource.reading l.initial.source)
     (g.S.TreeSource.reading l.source)
-    (reverse l.opened.items)
+    (reverse l.opened)
 
 abbrev pub decreases-loop-row : goal.decreases-loop-row
 decreases-loop-row g l = length (left (g.S.TreeSource.reading l.source))

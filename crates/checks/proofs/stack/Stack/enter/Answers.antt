@@ -7,10 +7,10 @@ use Rattle.checks.proofs.stack.Stack.enter.Goals as goal
 
 pub returns-clause-value : goal.returns-clause-value
 returns-clause-value c =
-    let q = opened_placed c.args.self.now c.self.inside.rows.items c.truncate.new.self.items c.args.depth (code_number c.args.code) c.self.view_is c.truncate.ensures.items (sym c.if-wrong_depth.ensures) (sym c.if-lacks.ensures) in
+    let q = opened_placed c.args.self.now c.self.inside.rows c.truncate.new.self c.args.depth (code_number c.args.code) c.self.view_is c.truncate.ensures (sym c.if-wrong_depth.ensures) (sym c.if-lacks.ensures) in
     c.place.ensures.value ∙ ap (λ o. answered (unplaced o) tt) (sym q)
 
 pub returns-clause-rows : goal.returns-clause-rows
 returns-clause-rows c =
-    let q = opened_placed c.args.self.now c.self.inside.rows.items c.truncate.new.self.items c.args.depth (code_number c.args.code) c.self.view_is c.truncate.ensures.items (sym c.if-wrong_depth.ensures) (sym c.if-lacks.ensures) in
+    let q = opened_placed c.args.self.now c.self.inside.rows c.truncate.new.self c.args.depth (code_number c.args.code) c.self.view_is c.truncate.ensures (sym c.if-wrong_depth.ensures) (sym c.if-lacks.ensures) in
     subst (λ o. OnOk c.place.result (o ≡ Some c.place.new.self)) (sym q) c.place.ensures.rows

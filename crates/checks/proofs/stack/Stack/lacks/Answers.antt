@@ -12,7 +12,7 @@ returns-then-lacking c =
     found (λ x. lacking x.now) (take (length xs - c.args.depth) (drop c.args.depth xs)) c.loop-slots.slots-index c.loop-slots.invariant _ c.loop-slots-test.true c.if-lacking.ensures
     ∙ ap (list_any (λ x. lacking x.now)) (take_rest xs c.args.depth)
     ∙ ap (λ ys. list_any (λ x. lacking x.now) (drop c.args.depth ys)) c.deref.ensures.0
-    ∙ lacks_closing c.args.self.now c.self.inside.rows.items c.args.depth c.self.view_is
+    ∙ lacks_closing c.args.self.now c.self.inside.rows c.args.depth c.self.view_is
 
 pub returns : goal.returns
 returns c =
@@ -20,4 +20,4 @@ returns c =
     all_passed (λ x. lacking x.now) (take (length xs - c.args.depth) (drop c.args.depth xs)) c.loop-slots.slots-index c.loop-slots.invariant c.loop-slots-test.false
     ∙ ap (list_any (λ x. lacking x.now)) (take_rest xs c.args.depth)
     ∙ ap (λ ys. list_any (λ x. lacking x.now) (drop c.args.depth ys)) c.deref.ensures.0
-    ∙ lacks_closing c.args.self.now c.self.inside.rows.items c.args.depth c.self.view_is
+    ∙ lacks_closing c.args.self.now c.self.inside.rows c.args.depth c.self.view_is
