@@ -20,9 +20,9 @@ use Rattle.reasons.specs.Coverings as reasons
 use Rattle.reasons.specs.Journals.{names}
 use Rattle.hir.specs.Scratches.{Notes}
 use Rattle.reactive.specs.Rows.{Row}
-use Rattle.calls.specs.Steps.{Text, absent, give_refusal, GiveStep, Names, RunAccepted, RunRefused, RunStep}
+use Rattle.calls.specs.Steps.{Text, absent, give_refusal, GiveStep, Distinct, Names, RunAccepted, RunRefused, RunStep}
 use Rattle.calls.specs.Histories.{World, Moment, tree_at, ran_as, given_as, RunFollows, GiveFollows, TreeFollows, there, nowhere, Follows}
-use Rattle.calls.specs.Promise.{Gives, added, Journals}
+use Rattle.calls.specs.Words.{Gives, added, Journals}
 use Rattle.walk.proofs.Fitting.{each_imp}
 use Rattle.calls.proofs.Naming.{Promoted, member}
 
@@ -32,7 +32,7 @@ pub data Fate (i : ℕ) (m : Moment) : Type 0 where
   given : tag_of m.before.env i ≡ 0 → tag_of m.after.env i ≡ 1 → Gives i m → (Journals i m → ⊥) → Fate i m
   named : tag_of m.before.env i ≡ 0 → Promoted (tag_of m.after.env i) → Journals i m → (Gives i m → ⊥) → Fate i m
 
-cases_option : {A : Type 0} (o : Option A) → (o ≡ None) ⊎ ((x : A) × (o ≡ Some x))
+pub cases_option : {A : Type 0} (o : Option A) → (o ≡ None) ⊎ ((x : A) × (o ≡ Some x))
 cases_option None = inl refl
 cases_option (Some x) = inr (x, refl)
 
@@ -54,17 +54,26 @@ give_cases {m = m} {i = i} s accepted refused =
 quiet : (i : ℕ) (m : Moment) → m.after.env ≡ m.before.env → (Gives i m → ⊥) → (Journals i m → ⊥) → Fate i m
 quiet i m e g j = stays (ap (λ (x : Model). tag_of x i) e) g j
 
--- the journal after a call is what it was, and then the rows that the call added
-abbrev pub Extends : Moment → Type 0
-Extends m = journal_of m.after.env ≡ journal_of m.before.env ++ added m
+-- the journal after a call is what it was, and then the rows that the call added; these are of different identifiers, which an accepted run journalled
+pub record Extends (m : Moment) : Type 0 where
+  pub rows : journal_of m.after.env ≡ journal_of m.before.env ++ added m
+  pub once : Distinct (added m)
+  pub journals : (i : ℕ) → names i (added m) ≡ true → Journals i m
 
 short_journal : (m : Model) → length (journal_of m) ≤ m.count
 short_journal m = simp length-take (omega arith)
 
-same_journal : (b a : Model) → journal_of a ≡ journal_of b → journal_of a ≡ journal_of b ++ drop b.count (journal_of a)
-same_journal b a e =
-    let d : drop b.count (journal_of a) ≡ [] = drop_all b.count (journal_of a) (let l = short_journal b in omega (arith, ap length e)) in
-    e ∙ sym (append-nil (journal_of b)) ∙ ap (λ xs. journal_of b ++ xs) (sym d)
+none_added : (m : Moment) → journal_of m.after.env ≡ journal_of m.before.env → added m ≡ []
+none_added m e = drop_all m.before.env.count (journal_of m.after.env) (let l = short_journal m.before.env in omega (arith, ap length e))
+
+same_journal : (m : Moment) → journal_of m.after.env ≡ journal_of m.before.env → Extends m
+same_journal m e =
+    let d = none_added m e in
+    record {
+      rows = e ∙ sym (append-nil (journal_of m.before.env)) ∙ ap (λ xs. journal_of m.before.env ++ xs) (sym d);
+      once = subst Distinct (sym d) tt;
+      journals = λ i n. cc (sym n ∙ ap (names i) d);
+    }
 
 pub full_journal : (m : Model) → m.count ≤ length m.journal → length (journal_of m) ≡ m.count
 full_journal m h = simp length-take (omega arith)
@@ -115,6 +124,9 @@ module _ (m : Moment) (t : ℕ) (ps : Span) (asked : m.request ≡ Run t ps) (f 
     ran : m.answer ≡ Ok (Ran m.before.env.count (length rows))
     ran = f.told ∙ ap ran_as a.answers
 
+    accepted_journals : (i : ℕ) → names i rows ≡ true → Journals i m
+    accepted_journals i e = record { tree = t; parameters = ps; place = m.before.env.count; count = length rows; asked = asked; accepted = ran; journalled = ap (names i) is_added ∙ e }
+
     accepted_fate : (i : ℕ) → Fate i m
     accepted_fate i =
         let n = a.names_them in
@@ -122,7 +134,7 @@ module _ (m : Moment) (t : ℕ) (ps : Span) (asked : m.request ≡ Run t ps) (f 
         (λ e. named
         (member (λ k. tag_of m.before.env k ≡ 0) rows i (each_imp _ _ (λ r h. h.1) rows n.unnamed) e)
         (member (λ k. Promoted (tag_of m.after.env k)) rows i n.promoted e)
-        (record { tree = t; parameters = ps; place = m.before.env.count; count = length rows; asked = asked; accepted = ran; journalled = ap (names i) is_added ∙ e })
+        (accepted_journals i e)
         (no_gift i))
         (λ e. stays
         (ap (λ (x : Identifier). x.tag) (n.others i e))
@@ -131,7 +143,11 @@ module _ (m : Moment) (t : ℕ) (ps : Span) (asked : m.request ≡ Run t ps) (f 
         (cases_Bool (names i rows))
 
     accepted_journal : Extends m
-    accepted_journal = a.names_them.journal ∙ ap (λ xs. journal_of m.before.env ++ xs) (sym is_added)
+    accepted_journal = record {
+      rows = a.names_them.journal ∙ ap (λ xs. journal_of m.before.env ++ xs) (sym is_added);
+      once = subst Distinct (sym is_added) a.names_them.once;
+      journals = λ i e. accepted_journals i (ap (names i) (sym is_added) ∙ e);
+    }
 
   -- an accepted run adds exactly those rows
   pub run_covered : (place count : ℕ) → m.answer ≡ Ok (Ran place count) → added m ≡ reasons.journal m.before.env ps (tree_at m.before t).rows
@@ -141,7 +157,7 @@ module _ (m : Moment) (t : ℕ) (ps : Span) (asked : m.request ≡ Run t ps) (f 
   run_fate i = run_cases f.step (λ e a. accepted_fate a i) (λ r e no. quiet i m no.env (no_gift i) (λ j. cc (sym j.accepted ∙ f.told ∙ ap ran_as no.answers)))
 
   pub run_journal : Extends m
-  run_journal = run_cases f.step (λ e a. accepted_journal a) (λ r e no. same_journal m.before.env m.after.env (ap journal_of no.env))
+  run_journal = run_cases f.step (λ e a. accepted_journal a) (λ r e no. same_journal m (ap journal_of no.env))
 
 module _ (m : Moment) (id : IdentifierId) (asked : m.request ≡ Give id) (f : GiveFollows m.before id m.answer m.after) where
   accepted_gift : give_refusal m.before.env id ≡ None → m.answer ≡ Ok Given → m.after.env ≡ tagged m.before.env id.0 1 → (i : ℕ) → Fate i m
@@ -166,10 +182,10 @@ module _ (m : Moment) (id : IdentifierId) (asked : m.request ≡ Give id) (f : G
       (λ r no after. quiet i m after (λ g. cc (sym g.1 ∙ f.told ∙ ap given_as no)) (λ j. cc))
 
   give_journal : Extends m
-  give_journal = same_journal m.before.env m.after.env (give_cases f.step (λ e said after. ap journal_of after) (λ r no after. ap journal_of after))
+  give_journal = same_journal m (give_cases f.step (λ e said after. ap journal_of after) (λ r no after. ap journal_of after))
 
 quiet_journal : (m : Moment) → m.after.env ≡ m.before.env → Extends m
-quiet_journal m same = same_journal m.before.env m.after.env (ap journal_of same)
+quiet_journal m same = same_journal m (ap journal_of same)
 
 -- what a call that follows does
 pub record Done (m : Moment) : Type 0 where

@@ -1,5 +1,6 @@
 pub mod Naming
 pub mod Fates
+pub mod Refusing
 pub mod Spellings
 pub mod Promises
 pub mod Passing

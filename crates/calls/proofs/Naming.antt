@@ -1,7 +1,7 @@
 -- What a run did follows from naming one identifier after another. Assumes nothing.
 use Rattle.std.proofs.Common.{◌≡◌, ℕ, ◌+◌, ◌<◌, ◌≤◌, Bool, true, false, eqb, ◌⊎◌, List, [], ◌∷◌, ◌++◌, length, drop, sym, refl, ap, ◌∙◌, subst, inl, inr, ⊎_elim, append_assoc, append-nil, arith, length-set, get_or-set_other, get_or-set_same}
 use Rattle.std.proofs.lemmas.List.{take_more_set, drop-set-lt, drop-drop, length_push}
-use Rattle.std.proofs.lemmas.Bool.{cases_Bool, or_parts, or_from, or_cases, ne_eqb, eqb-true, eqb-false}
+use Rattle.std.proofs.lemmas.Bool.{cases_Bool, or_parts, or_from, or_cases, or_left, or_right, eq-eqb, ne_eqb, eqb-true, eqb-false, false_from_ne_true, true≢false}
 use Rattle.hir.specs.declared.tables.Identifier.{Identifier}
 use Rattle.hir.specs.declared.tables.JournalRow.{JournalRow}
 use Rattle.hir.specs.Environments.{Model, no_identifier, row_of, tag_of, journal_of, tagged, journaled}
@@ -34,6 +34,26 @@ once_push [] r d e = (refl, tt)
 once_push (x ∷ js) r d e =
     let p = or_parts (eqb r.identifier.0 x.identifier.0) (names r.identifier.0 js) e in
     (push_names x.identifier.0 js r d.0 (apart r.identifier.0 x.identifier.0 p.0), once_push js r d.1 p.1)
+
+-- a row of two lists is in one of them
+pub names_apart : (i : ℕ) (xs ys : List JournalRow) → names i (xs ++ ys) ≡ true → (names i xs ≡ true) ⊎ (names i ys ≡ true)
+names_apart i [] ys n = inr n
+names_apart i (x ∷ xs) ys n =
+    ⊎_elim
+    (λ here. inl (or_left (eqb i x.identifier.0) (names i xs) here))
+    (λ later. ⊎_elim (λ a. inl (or_right (eqb i x.identifier.0) (names i xs) a)) (λ b. inr b) (names_apart i xs ys later))
+    (or_cases (eqb i x.identifier.0) (names i (xs ++ ys)) n)
+
+names_none_of : (i : ℕ) (xs ys : List JournalRow) → names i xs ≡ false → names i ys ≡ false → names i (xs ++ ys) ≡ false
+names_none_of i xs ys e f = false_from_ne_true _ (λ n. ⊎_elim (λ a. true≢false (sym a ∙ e)) (λ b. true≢false (sym b ∙ f)) (names_apart i xs ys n))
+
+-- lists without a row of the same identifier
+pub once_append : (xs ys : List JournalRow) → Distinct xs → Distinct ys → ((i : ℕ) → names i xs ≡ true → names i ys ≡ false) → Distinct (xs ++ ys)
+once_append [] ys d e apart = e
+once_append (x ∷ xs) ys d e apart = (
+  names_none_of x.identifier.0 xs ys d.0 (apart x.identifier.0 (or_left _ (names x.identifier.0 xs) (eq-eqb x.identifier.0 x.identifier.0 refl))),
+  once_append xs ys d.1 e (λ i n. apart i (or_right (eqb i x.identifier.0) (names i xs) n)),
+)
 
 -- what holds of the row of an identifier that some row is of
 pub member : (P : ℕ → Type 0) (js : List JournalRow) (i : ℕ) → Each (λ r. P r.identifier.0) js → names i js ≡ true → P i

@@ -1,6 +1,6 @@
 -- The promise, from what each call does. Assumes nothing.
 use Rattle.std.proofs.Common.{◌≡◌, ℕ, true, not, ◌⊎◌, List, [], ◌∷◌, ◌++◌, Some, None, Ok, Option, sym, refl, ap, ◌∙◌, subst, inl, inr, ⊎_elim, append_assoc, append-nil, arith}
-use Rattle.std.proofs.lemmas.Bool.{eq-eqb, ne_eqb}
+use Rattle.std.proofs.lemmas.Bool.{eq-eqb, ne_eqb, false_from_ne_true}
 use Rattle.hir.specs.declared.refusal.Refusal.{Refusal}
 use Rattle.hir.specs.Environments.{tag_of, journal_of}
 use Rattle.hir.specs.Refusals.{answered}
@@ -8,14 +8,17 @@ use Rattle.hir.specs.Spans.{ident}
 use Rattle.calls.specs.declared.requests.Request.{Request}
 use Rattle.calls.specs.declared.requests.Request.TheVariants.{Run, Give, Look, Spell}
 use Rattle.calls.specs.declared.requests.Reply.TheVariants.{Tag}
-use Rattle.calls.specs.Steps.{Text, look_refusal}
+use Rattle.calls.specs.Steps.{Text, Distinct, look_refusal}
+use Rattle.reasons.specs.Journals.{names}
+use Rattle.calls.proofs.Refusing.{refused_by, refuses_by, untouched_by}
 use Rattle.calls.specs.Histories.{World, Moment, tree_at, looked_as, Follows, History, start, next, Somewhere}
-use Rattle.calls.specs.Promise.{is_named, Gives, added, Journals, JournalsAs, TagFollows, by_gift, by_run, by_start, Alike, all_added, Promise}
+use Rattle.calls.specs.Words.{is_named, Gives, added, Journals, JournalsAs, TagFollows, by_gift, by_run, by_start, Within, Alike, all_added}
+use Rattle.calls.specs.Promise.{Promise}
 use Rattle.naming.specs.Texts.{Lawful}
 use Rattle.reasons.specs.Coverings as reasons
-use Rattle.calls.proofs.Naming.{Promoted, promoted_some}
+use Rattle.calls.proofs.Naming.{Promoted, promoted_some, names_apart, once_append}
 use Rattle.calls.proofs.Fates.{Fate, stays, given, named, done_call, ran_follows, run_covered}
-use Rattle.calls.proofs.Spellings.{declares_on, call_letter, alike_by}
+use Rattle.calls.proofs.Spellings.{declares_on, as_many_on, call_letter, alike_by}
 
 -- what a list of calls does to an identifier
 data Tale (i : ℕ) (w : World) (ms : List Moment) (u : World) : Type 0 where
@@ -129,31 +132,69 @@ looked text m i t (Spell a) e is said f = cc
 after_here : (text : Text) (w u : World) (m : Moment) (rest : List Moment) → History text w (m ∷ rest) u → History text m.after rest u
 after_here text w u x rest (next m e f h) = h
 
+-- some calls lead from one world to another
+record Led (text : Text) (w v : World) : Type 0 where
+  calls : List Moment
+  history : History text w calls v
+
+led_none : (text : Text) (w v : World) → v ≡ w → Led text w v
+led_none text w v e = let P : World → Type 0 = λ x. Led text w x in subst P (sym e) (record { calls = []; history = start })
+
+-- calls lead to each world between them
+led_within : (text : Text) (w u v : World) (ms : List Moment) → History text w ms u → Within ms u v → Led text w v
+led_within text w u v [] start h = led_none text w v (⊎_elim (λ x. absurd x) (λ e. e) h)
+led_within text w u v (x ∷ ms) (next m e f h) at =
+    let on : Within ms u v → Led text w v = λ later.
+    let l = led_within text m.after u v ms h later in
+    record { calls = m ∷ l.calls; history = next m e f l.history } in
+    ⊎_elim (λ some. ⊎_elim (λ here. led_none text w v (here ∙ e)) (λ later. on (inl later)) some) (λ last. on (inr last)) at
+
+journalled_fate : (k : ℕ) (m : Moment) → Journals k m → Fate k m → tag_of m.after.env k ≡ 0 → ⊥
+journalled_fate k m c (stays s g n) z = n c
+journalled_fate k m c (given x o g n) z = n c
+journalled_fate k m c (named x o n g) z = promoted_some _ o z
+
+-- what a run journalled has a name after it
+journalled_named : (text : Text) (m : Moment) (k : ℕ) → Follows text m.before m.request m.answer m.after → Journals k m → tag_of m.after.env k ≡ 0 → ⊥
+journalled_named text m k f c = journalled_fate k m c ((done_call text m f).fate k)
+
 -- two identifiers that one run named, later on
-alike_later : (text : Text) (u : World) (m : Moment) (rest : List Moment) (i j : ℕ) → Follows text m.before m.request m.answer m.after → History text m.before (m ∷ rest) u → Journals i m → Journals j m → (naming : Text) → Lawful naming → Alike naming u.env i j
-alike_later text u m rest i j f h a b naming law =
-    let later = after_here text m.before u m rest h in
-    let stands_so : (k : ℕ) → Journals k m → tag_of u.env k ≡ tag_of m.after.env k = λ k c.
-    tale_start k m.after u rest (tale text k m.after u rest later) (is_named_by_tag m.after k (named_after k c)) in
-    alike_by naming law m (reasons.upper m.before.env (tree_at m.before a.tree).rows) u i j
+alike_later : (text : Text) (v : World) (m : Moment) (i j : ℕ) → Follows text m.before m.request m.answer m.after → Led text m.after v → Journals i m → Journals j m → (naming : Text) → Lawful naming → Alike naming v.env i j
+alike_later text v m i j f led a b naming law =
+    let whole : History text m.before (m ∷ led.calls) v = next m refl f led.history in
+    let stands_so : (k : ℕ) → Journals k m → tag_of v.env k ≡ tag_of m.after.env k = λ k c.
+    tale_start k m.after v led.calls (tale text k m.after v led.calls led.history) (is_named_by_tag m.after k (journalled_named text m k f c)) in
+    alike_by naming law m (reasons.upper m.before.env (tree_at m.before a.tree).rows) v i j
     (call_letter m a.tree a.parameters i a text a.asked f)
     (call_letter m a.tree a.parameters j b text a.asked f)
-    (λ k. declares_on text m.before u (m ∷ rest) h k)
+    (λ k. declares_on text m.before v (m ∷ led.calls) whole k)
+    (as_many_on text m.before v (m ∷ led.calls) whole)
     (stands_so i a) (stands_so j b)
-  where
-    named_fate : (k : ℕ) → Journals k m → Fate k m → tag_of m.after.env k ≡ 0 → ⊥
-    named_fate k c (stays s g n) z = n c
-    named_fate k c (given x o g n) z = n c
-    named_fate k c (named x o n g) z = promoted_some _ o z
 
-    named_after : (k : ℕ) → Journals k m → tag_of m.after.env k ≡ 0 → ⊥
-    named_after k c = named_fate k c ((done_call text m f).fate k)
+-- the rows that calls added are of identifiers that accepted runs journalled
+added_by : (text : Text) (w u : World) (ms : List Moment) → History text w ms u → (i : ℕ) → names i (all_added ms) ≡ true → Somewhere (Journals i) ms
+added_by text w u [] start i n = cc n
+added_by text w u (x ∷ ms) (next m e f h) i n =
+    ⊎_elim
+    (λ here. inl ((done_call text m f).journal.journals i here))
+    (λ later. inr (added_by text m.after u ms h i later))
+    (names_apart i (added m) (all_added ms) n)
+
+-- no identifier is journalled twice
+once_all : (text : Text) (w u : World) (ms : List Moment) → History text w ms u → Distinct (all_added ms)
+once_all text w u [] start = tt
+once_all text w u (x ∷ ms) (next m e f h) =
+    once_append (added m) (all_added ms) (done_call text m f).journal.once (once_all text m.after u ms h)
+    (λ i here. false_from_ne_true _ (λ later.
+    tale_start_run i m.after u ms (tale text i m.after u ms h)
+    (is_named_by_tag m.after i (journalled_named text m i f ((done_call text m f).journal.journals i here)))
+    (added_by text m.after u ms h i later)))
 
 all_journal : (text : Text) (w u : World) (ms : List Moment) → History text w ms u → journal_of u.env ≡ journal_of w.env ++ all_added ms
 all_journal text w u [] start = sym (append-nil (journal_of w.env))
 all_journal text w u (x ∷ ms) (next m e f h) =
     all_journal text m.after u ms h
-    ∙ ap (λ xs. xs ++ all_added ms) ((done_call text m f).journal ∙ ap (λ (x : World). journal_of x.env ++ added m) e)
+    ∙ ap (λ xs. xs ++ all_added ms) ((done_call text m f).journal.rows ∙ ap (λ (x : World). journal_of x.env ++ added m) e)
     ∙ append_assoc (journal_of w.env) (added m) (all_added ms)
 
 pub promise : (text : Text) (w : World) (ms : List Moment) (u : World) → History text w ms u → Promise text w ms u
@@ -168,12 +209,18 @@ promise text w ms u h =
       start_or_gift = λ i. tale_start_gift i w u ms (t i);
       start_or_run = λ i. tale_start_run i w u ms (t i);
       gift_or_run = λ i. tale_gift_run i w u ms (t i);
+      once = once_all text w u ms h;
       stands = λ before rest m i e n.
           let c = cut_at text w u ms before m rest e h in
           tale_start i m.before u (m ∷ rest) (tale text i m.before u (m ∷ rest) c.later) n;
       journal = all_journal text w u ms h;
       covered = λ before rest m k ps place count e asked said. run_covered m k ps asked (ran_follows text m k ps place count asked said (cut_at text w u ms before m rest e h).follows) place count said;
-      alike = λ before rest m i j e a b naming law. let c = cut_at text w u ms before m rest e h in alike_later text u m rest i j c.follows c.later a b naming law;
+      refused = λ before rest m r e said. refused_by text m (cut_at text w u ms before m rest e h).follows r said;
+      refuses = λ before rest m r e some. refuses_by text m (cut_at text w u ms before m rest e h).follows r some;
+      untouched = λ before rest m r e said. untouched_by text m (cut_at text w u ms before m rest e h).follows r said;
+      alike = λ before rest m v i j e at a b naming law.
+          let c = cut_at text w u ms before m rest e h in
+          alike_later text v m i j c.follows (led_within text m.after u v rest (after_here text m.before u m rest c.later) at) a b naming law;
       tags = λ i. tag_follows i w u ms (t i);
       looks = λ before rest m i x e asked said.
           let c = cut_at text w u ms before m rest e h in

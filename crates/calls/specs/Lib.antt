@@ -1,3 +1,5 @@
 pub mod Steps
 pub mod Histories
+pub mod Words
 pub mod Promise
+pub mod Equal

@@ -1,4 +1,5 @@
-ghost use Rattle.calls.specs.Promise.{EveryHistory, EqualRuns};
+ghost use Rattle.calls.specs.Promise.{EveryHistory};
+ghost use Rattle.calls.specs.Equal.{EqualRuns};
 
 // The promise holds of every list of calls that follow one another, whoever makes them.
 pub fn every_history_keeps_it()
