@@ -24,14 +24,12 @@ pub const ROWS: usize = 20;
 // Every list of the panel, one behind the other.
 pub const POOL: [u32; 8] = [0, 7, 1, 4, 5, 6, 3, 2];
 
+// The panel's own parameters: its properties.
+pub const PARAMETERS: Span = Span { start: 0, count: 1 };
+
 // A part of the pool.
 fn span(start: u32, count: u32) -> Span {
     Span { start, count }
-}
-
-// The panel's own parameters: its properties.
-pub fn parameters() -> Span {
-    span(0, 1)
 }
 
 // Identifier i has declaration i and no name.
