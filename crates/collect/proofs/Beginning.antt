@@ -6,11 +6,12 @@ use Rattle.hir.specs.Environments.{Model}
 use Rattle.hir.specs.Lists.{Each}
 use Rattle.hir.specs.Scratches.{Tables, work_of}
 use Rattle.hir.specs.Sound.{Sound, Known}
-use Rattle.reactive.specs.declared.row.RowHead.{RowHead}
+use Rattle.reactive.specs.declared.row.OpenRow.{OpenRow}
 use Rattle.reactive.specs.Codes.{uses_identifier, used_in, listed}
 use Rattle.reactive.specs.Numbers.{scope_in}
+use Rattle.reactive.specs.Open.{open_row}
 use Rattle.reactive.specs.Rows.{Row, head}
-use Rattle.reactive.specs.Sound.{HeadSound, RowSound}
+use Rattle.reactive.specs.Sound.{OpenSound, RowSound}
 use Rattle.walk.specs.Events.{Event, entering, leaving, closing, staying, innermost_of, events, acts_of}
 use Rattle.walk.proofs.Fitting.{Within, each_acts, each_append, each_cond, each_map, each_listed}
 use Rattle.collect.specs.Links.{reach}
@@ -30,7 +31,7 @@ module _ (m : Model) where
       cond_both (uses_identifier r.code) r.identifier None (λ o. Each (Fits m) (map sees (listed o)))
       (λ e. each_map (Fits m) sees (Known m) (λ i k. k) (listed r.identifier) (each_listed (Known m) r.identifier h.names.identifier)) (λ e. tt)
 
-  fits_enter : (p : Option RowHead) (r : Row) → Within (HeadSound m) p → RowSound m r → Each (Fits m) (acts (entering p r))
+  fits_enter : (p : Option OpenRow) (r : Row) → Within (OpenSound m) p → RowSound m r → Each (Fits m) (acts (entering p r))
   fits_enter p r w h =
       let In : ScopeId → Type 0 = λ s. s.0 < length m.scopes in
       let scopes = each_listed In (scope_in r.number) h.names.scope in
@@ -38,7 +39,7 @@ module _ (m : Model) where
       (each_cond (Fits m) (eqb r.code 4) _ _ (each_map (Fits m) prunes In (λ s k. k) (listed (scope_in r.number)) scopes)
       (each_cond (Fits m) (eqb r.code 5) _ _ (fits_leaf r h) (fits_used r h)))
 
-  fits_leave : (q : RowHead) → HeadSound m q → Each (Fits m) (acts (leaving q))
+  fits_leave : (q : OpenRow) → OpenSound m q → Each (Fits m) (acts (leaving q))
   fits_leave q h =
       let Any : ScopeId → Type 0 = λ s. Unit {0} in
       each_cond (Fits m) (eqb q.code 3) (map (λ s. shuts) (listed (scope_in q.number))) []
@@ -72,12 +73,12 @@ openings_row r =
     (cond_both (eqb r.code 4) _ _ (λ xs. openings xs ≡ 0) (λ e. no_openings prunes (λ s. refl) (listed (scope_in r.number)))
     (λ e. cond_both (eqb r.code 5) _ _ (λ xs. openings xs ≡ 0) (λ e. openings_leaf r) (λ e. no_openings sees (λ i. refl) (listed (used_in r.code r.identifier)))))
 
-openings_left : (r : RowHead) → openings (acts (leaving r)) ≡ 0
+openings_left : (r : OpenRow) → openings (acts (leaving r)) ≡ 0
 openings_left r =
     cond_both (eqb r.code 3) (map (λ s. shuts) (listed (scope_in r.number))) [] (λ xs. openings xs ≡ 0)
     (λ e. no_openings (λ s. shuts) (λ s. refl) (listed (scope_in r.number))) (λ e. refl)
 
-openings_closing : (d : ℕ) (around : List RowHead) (es : List Event) → openings (acts_of acts (closing d around ++ es)) ≡ openings (acts_of acts es)
+openings_closing : (d : ℕ) (around : List OpenRow) (es : List Event) → openings (acts_of acts (closing d around ++ es)) ≡ openings (acts_of acts es)
 openings_closing d [] es = refl
 openings_closing d (r ∷ around) es =
     cond_both (leb d (length around)) (leaving r ∷ closing d around) [] (λ xs. openings (acts_of acts (xs ++ es)) ≡ openings (acts_of acts es))
@@ -86,15 +87,15 @@ openings_closing d (r ∷ around) es =
     omega (arith, a, openings_left r, openings_closing d around es))
     (λ e. refl)
 
-openings_events : (around : List RowHead) (rs : List Row) → openings (acts_of acts (events around rs)) ≤ scope_rows rs
+openings_events : (around : List OpenRow) (rs : List Row) → openings (acts_of acts (events around rs)) ≤ scope_rows rs
 openings_events around [] =
     let e = ap (λ (es : List Event). openings (acts_of acts es)) (append-nil (closing 0 around)) in
     omega (arith, e, openings_closing 0 around [])
 openings_events around (r ∷ rs) =
-    let rest = events (head r ∷ staying r.depth around) rs in
+    let rest = events (open_row (head r) ∷ staying r.depth around) rs in
     let a = openings_closing r.depth around (entering (innermost_of (staying r.depth around)) r ∷ rest) in
     let b = openings_append (row_acts r) (acts_of acts rest) in
-    omega (arith, a, b, openings_row r, openings_events (head r ∷ staying r.depth around) rs)
+    omega (arith, a, b, openings_row r, openings_events (open_row (head r) ∷ staying r.depth around) rs)
 
 -- a trail row is appended for a Scope row alone
 pub few_openings : (rs : List Row) → openings (pass_acts rs) ≤ scope_rows rs
@@ -105,7 +106,7 @@ ready_begun t rs sound fresh room low rows =
     record {
       sound = sound;
       linked = record { innermost = omega arith; down = λ j h. absurd (omega arith); recorded = λ d. subst (λ o. IfSome o (λ l. reach l ≤ 0)) (sym (fresh d)) tt };
-      fits = each_acts (RowSound t.env) (HeadSound t.env) (λ r k. k.names) acts (Fits t.env) (fits_enter t.env) (fits_leave t.env) [] rs tt rows;
+      fits = each_acts (RowSound t.env) (OpenSound t.env) (λ r k. k.names) acts (Fits t.env) (fits_enter t.env) (fits_leave t.env) [] rs tt rows;
       room = omega arith;
       low = omega arith;
     }

@@ -17,7 +17,7 @@ use hir::scratch::{Link, Scratch, Trail, Work};
 use reactive::code::Code;
 use reactive::given::GivenRow;
 use reactive::kind::Kind;
-use reactive::row::RowHead;
+use reactive::row::OpenRow;
 use reactive::source::TreeSource;
 use walk::visitor::Visitor;
 use walk::walking::walk;
@@ -171,7 +171,7 @@ impl Visitor for CollectPromotable {
         &mut self,
         env: &mut Environment,
         scratch: &mut Scratch,
-        _parent: Option<RowHead>,
+        _parent: Option<OpenRow>,
         row: &GivenRow<S>,
     ) {
         let head = row.head();
@@ -187,7 +187,7 @@ impl Visitor for CollectPromotable {
         }
     }
 
-    fn leave(&mut self, _env: &mut Environment, scratch: &mut Scratch, row: &RowHead) {
+    fn leave(&mut self, _env: &mut Environment, scratch: &mut Scratch, row: &OpenRow) {
         if row.is(Code::Scope) && row.scope().is_some() {
             self.shut_scope(scratch);
         }

@@ -9,11 +9,12 @@ use Rattle.hir.specs.Lists.{Each}
 use Rattle.std.specs.List.{fold}
 use Rattle.hir.specs.Scratches.{Tables}
 use Rattle.hir.specs.Sound.{Sound, Known, KnownFunction}
+use Rattle.reactive.specs.declared.row.OpenRow.{OpenRow}
 use Rattle.reactive.specs.declared.row.RowHead.{RowHead}
 use Rattle.reactive.specs.Codes.{listed}
 use Rattle.reactive.specs.Numbers.{scope_in, function_in}
 use Rattle.reactive.specs.Rows.{Row, head}
-use Rattle.reactive.specs.Sound.{HeadSound, RowSound}
+use Rattle.reactive.specs.Sound.{OpenSound, RowSound}
 use Rattle.walk.specs.Events.{entering, leaving}
 use Rattle.walk.proofs.Acting.{Splits, ready_onward, over_onward}
 use Rattle.walk.proofs.Fitting.{Within, each_acts, each_append, each_cond, each_map, each_listed}
@@ -57,7 +58,7 @@ pub grows_over : (t : Tables) (todo : List Act) → Ready t todo → Grows t (fo
 grows_over = passing.grows_over does Fits fits_kept grows_does
 
 -- a Leaf: its operands, and the parameters of its function
-module _ (p : Option RowHead) (r : Row) (q : RowHead) (e : q ≡ head r) (is : true ≡ eqb q.code 5) where
+module _ (p : Option OpenRow) (r : Row) (q : RowHead) (e : q ≡ head r) (is : true ≡ eqb q.code 5) where
   leaf_acts : acts (entering p r) ≡ map again r.operands ++ map parameters (listed (function_in q.number))
   leaf_acts =
       (λ i. row_acts (sym e i).code (sym e i).identifier (sym e i).number r.operands)
@@ -86,18 +87,18 @@ module _ (m : Model) where
   fits_again : (is : List IdentifierId) → Each (Known m) is → Each (Fits m) (map again is)
   fits_again is h = each_map (Fits m) again (Known m) (λ x k. k) is h
 
-  fits_enter : (p : Option RowHead) (r : Row) → Within (HeadSound m) p → RowSound m r → Each (Fits m) (acts (entering p r))
+  fits_enter : (p : Option OpenRow) (r : Row) → Within (OpenSound m) p → RowSound m r → Each (Fits m) (acts (entering p r))
   fits_enter p r w h =
       each_cond (Fits m) (eqb r.code 5) _ _
       (each_append (Fits m) (map again r.operands) _ (fits_again r.operands h.operands)
       (each_map (Fits m) parameters (KnownFunction m) (λ f k. k) (listed (function_in r.number)) (each_listed (KnownFunction m) (function_in r.number) h.names.function)))
       (fits_again (listed r.identifier) (each_listed (Known m) r.identifier h.names.identifier))
 
-  fits_leave : (q : RowHead) → HeadSound m q → Each (Fits m) (acts (leaving q))
+  fits_leave : (q : OpenRow) → OpenSound m q → Each (Fits m) (acts (leaving q))
   fits_leave q h =
       each_map (Fits m) leaves (λ s. s.0 < length m.scopes) (λ s k. k) (listed (scope_in q.number)) (each_listed (λ s. s.0 < length m.scopes) (scope_in q.number) h.scope)
 
 -- the pass can go over sound rows
 pub ready_rows : (t : Tables) (rs : List Row) → Sound t → Each (RowSound t.env) rs → Ready t (pass_acts rs)
 ready_rows t rs s h =
-    record { sound = s; fits = each_acts (RowSound t.env) (HeadSound t.env) (λ r k. k.names) acts (Fits t.env) (fits_enter t.env) (fits_leave t.env) [] rs tt h }
+    record { sound = s; fits = each_acts (RowSound t.env) (OpenSound t.env) (λ r k. k.names) acts (Fits t.env) (fits_enter t.env) (fits_leave t.env) [] rs tt h }

@@ -17,7 +17,7 @@ use hir::tables::Reason;
 use promote::identifier::promote_unnamed;
 use reactive::code::Code;
 use reactive::given::GivenRow;
-use reactive::row::RowHead;
+use reactive::row::OpenRow;
 use reactive::source::TreeSource;
 use walk::visitor::Visitor;
 use walk::walking::walk;
@@ -97,7 +97,7 @@ impl Visitor for PromoteAllInstances {
         &mut self,
         env: &mut Environment,
         scratch: &mut Scratch,
-        _parent: Option<RowHead>,
+        _parent: Option<OpenRow>,
         row: &GivenRow<S>,
     ) {
         let head = row.head();
@@ -111,7 +111,7 @@ impl Visitor for PromoteAllInstances {
         }
     }
 
-    fn leave(&mut self, env: &mut Environment, scratch: &mut Scratch, row: &RowHead) {
+    fn leave(&mut self, env: &mut Environment, scratch: &mut Scratch, row: &OpenRow) {
         if let Some(scope) = row.scope() {
             promote_all_instances_scope_identifiers(env, scratch, scope);
         }

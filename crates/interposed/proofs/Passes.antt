@@ -9,10 +9,11 @@ use Rattle.hir.specs.Lists.{Each}
 use Rattle.std.specs.List.{fold}
 use Rattle.hir.specs.Scratches.{Tables}
 use Rattle.hir.specs.Sound.{Sound, Known}
-use Rattle.reactive.specs.declared.row.RowHead.{RowHead}
+use Rattle.reactive.specs.declared.row.OpenRow.{OpenRow}
 use Rattle.reactive.specs.Codes.{listed, used_in, uses_identifier}
+use Rattle.reactive.specs.Open.{open_row}
 use Rattle.reactive.specs.Rows.{Row, head}
-use Rattle.reactive.specs.Sound.{HeadSound, RowSound}
+use Rattle.reactive.specs.Sound.{OpenSound, RowSound}
 use Rattle.walk.specs.Events.{Event, entering, leaving, closing, staying, innermost_of, events, acts_of}
 use Rattle.walk.proofs.Acting.{Splits, ready_onward, over_onward}
 use Rattle.promote.specs.Growth.{Grows, none}
@@ -165,7 +166,7 @@ module _ (m : Model) where
   known_if None h = tt
   known_if (Some i) h = h i refl
 
-  instruction_is : (p : Option RowHead) (q : RowHead) → instruction_in p ≡ Some q → p ≡ Some q
+  instruction_is : (p : Option OpenRow) (q : OpenRow) → instruction_in p ≡ Some q → p ≡ Some q
   instruction_is None q e = e
   instruction_is (Some p) q e =
       ⊎_elim
@@ -173,7 +174,7 @@ module _ (m : Model) where
       (λ b. absurd (let f : None ≡ Some q = sym (cond-false (eqb p.code 2) (Some p) None b) ∙ e in let z : ◌≡◌ {A = ℕ} 0 1 = cc in omega arith))
       (cases_Bool (eqb p.code 2))
 
-  fits_under : (o : Option RowHead) (r : Row) → ((q : RowHead) → o ≡ Some q → HeadSound m q) → RowSound m r → Each (Fits m) (under_acts o r.kind r.mode r.marks r.operands)
+  fits_under : (o : Option OpenRow) (r : Row) → ((q : OpenRow) → o ≡ Some q → OpenSound m q) → RowSound m r → Each (Fits m) (under_acts o r.kind r.mode r.marks r.operands)
   fits_under None r w h = fits_uses r.operands h.operands
   fits_under (Some p) r w h = fits_leaf p.identifier r.kind r.mode r.marks r.operands (known_if p.identifier (w p refl).identifier) h.marks h.operands
 
@@ -184,7 +185,7 @@ module _ (m : Model) where
       (λ b. absurd (let f : None ≡ Some i = sym (cond-false (uses_identifier c) o None b) ∙ e in let z : ◌≡◌ {A = ℕ} 0 1 = cc in omega arith))
       (cases_Bool (uses_identifier c))
 
-  fits_row : (p : Option RowHead) (r : Row) → Within (HeadSound m) p → RowSound m r → Each (Fits m) (acts (entering p r))
+  fits_row : (p : Option OpenRow) (r : Row) → Within (OpenSound m) p → RowSound m r → Each (Fits m) (acts (entering p r))
   fits_row p r w h =
       each_cond (Fits m) (eqb r.code 5) _ _
       (fits_under (instruction_in p) r (λ q e. w q (instruction_is p q e)) h)
@@ -193,7 +194,7 @@ module _ (m : Model) where
   fits_rows : (ps : List IdentifierId) (rs : List Row) → Each (Known m) ps → Each (RowSound m) rs → Each (Fits m) (pass_acts ps rs)
   fits_rows ps rs hp h =
       each_append (Fits m) (map fixes ps) _ (each_map (Fits m) fixes (Known m) (λ x k. k) ps hp)
-      (each_acts (RowSound m) (HeadSound m) (λ r k. k.names) acts (Fits m) fits_row (λ q k. tt) [] rs tt h)
+      (each_acts (RowSound m) (OpenSound m) (λ r k. k.names) acts (Fits m) fits_row (λ q k. tt) [] rs tt h)
 
 -- a row raises at most one barrier
 none_fixes : (is : List IdentifierId) → barriers (map fixes is) ≡ 0
@@ -232,11 +233,11 @@ few_leaf l k mode ms os =
     let i = few_cond 0 (is_barrier k) (map tracks (listed l)) [] (omega (arith, none_tracks (listed l))) (omega arith) in
     omega (arith, a, b, c, d, e, f, g, h, i)
 
-few_under : (o : Option RowHead) (k mode : ℕ) (ms os : List IdentifierId) → barriers (under_acts o k mode ms os) ≤ 1
+few_under : (o : Option OpenRow) (k mode : ℕ) (ms os : List IdentifierId) → barriers (under_acts o k mode ms os) ≤ 1
 few_under None k mode ms os = omega (arith, none_uses os)
 few_under (Some p) k mode ms os = few_leaf p.identifier k mode ms os
 
-few_row : (p : Option RowHead) (r : Row) → barriers (acts (entering p r)) ≤ 1
+few_row : (p : Option OpenRow) (r : Row) → barriers (acts (entering p r)) ≤ 1
 few_row p r =
     few_cond 1 (eqb r.code 5) _ _ (few_under (instruction_in p) r.kind r.mode r.marks r.operands)
     (omega (arith, none_uses (listed (used_in r.code r.identifier))))
@@ -248,19 +249,19 @@ acts_both (x ∷ xs) ys =
     let b = barriers_append (acts x) (acts_of acts xs) in
     omega (arith, a, b, acts_both xs ys)
 
-none_closing : (d : ℕ) (around : List RowHead) → barriers (acts_of acts (closing d around)) ≤ 0
+none_closing : (d : ℕ) (around : List OpenRow) → barriers (acts_of acts (closing d around)) ≤ 0
 none_closing d [] = omega arith
 none_closing d (r ∷ around) =
     cond_both (leb d (length around)) (leaving r ∷ closing d around) [] (λ es. barriers (acts_of acts es) ≤ 0) (λ e. none_closing d around) (λ e. omega arith)
 
-few_events : (around : List RowHead) (rs : List Row) → barriers (acts_of acts (events around rs)) ≤ length rs
+few_events : (around : List OpenRow) (rs : List Row) → barriers (acts_of acts (events around rs)) ≤ length rs
 few_events around [] = omega (arith, none_closing 0 around)
 few_events around (r ∷ rs) =
     let p = innermost_of (staying r.depth around) in
-    let on = events (head r ∷ staying r.depth around) rs in
+    let on = events (open_row (head r) ∷ staying r.depth around) rs in
     let a = acts_both (closing r.depth around) (entering p r ∷ on) in
     let b = barriers_append (acts (entering p r)) (acts_of acts on) in
-    omega (arith, a, b, none_closing r.depth around, few_row p r, few_events (head r ∷ staying r.depth around) rs)
+    omega (arith, a, b, none_closing r.depth around, few_row p r, few_events (open_row (head r) ∷ staying r.depth around) rs)
 
 -- the pass can go over sound rows
 pub ready_begun : (t : Tables) (ps : List IdentifierId) (rs : List Row) → Sound t → Each (Known t.env) ps → Each (RowSound t.env) rs → length rs ≤ 262144 → Ready (begun t) (pass_acts ps rs)

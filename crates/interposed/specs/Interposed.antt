@@ -6,6 +6,7 @@ use Rattle.std.specs.List.{fold}
 use Rattle.hir.specs.Scratches.{Tables}
 use Rattle.hir.specs.Spans.{identifiers_in}
 use Rattle.reactive.specs.declared.code.Code.TheVariants as codes
+use Rattle.reactive.specs.declared.row.OpenRow.{OpenRow}
 use Rattle.reactive.specs.declared.row.RowHead.{RowHead}
 use Rattle.reactive.specs.Codes.{code_number, used_in, listed}
 use Rattle.reactive.specs.Rows.{Row, head}
@@ -39,16 +40,16 @@ abbrev pub leaf_acts : Option IdentifierId → ℕ → ℕ → List IdentifierId
 leaf_acts l k mode ms os = fix_acts k mode ms ++ (value_acts k l ms ++ (map uses os ++ end_acts k mode l))
 
 -- the parent, where that is an Instruction
-abbrev pub instruction_in : Option RowHead → Option RowHead
+abbrev pub instruction_in : Option OpenRow → Option OpenRow
 instruction_in None = None
 instruction_in (Some p) = cond (p.code == code_number codes.Instruction) (Some p) None
 
 -- any other Leaf only uses its operands
-abbrev pub under_acts : Option RowHead → ℕ → ℕ → List IdentifierId → List IdentifierId → List Act
+abbrev pub under_acts : Option OpenRow → ℕ → ℕ → List IdentifierId → List IdentifierId → List Act
 under_acts None k mode ms os = map uses os
 under_acts (Some p) k mode ms os = leaf_acts p.identifier k mode ms os
 
-abbrev pub row_acts : Option RowHead → RowHead → List IdentifierId → List IdentifierId → List Act
+abbrev pub row_acts : Option OpenRow → RowHead → List IdentifierId → List IdentifierId → List Act
 row_acts p r ms os = cond (r.code == code_number codes.Leaf) (under_acts (instruction_in p) r.kind r.mode ms os) (map uses (listed (used_in r.code r.identifier)))
 
 abbrev pub acts : Event → List Act

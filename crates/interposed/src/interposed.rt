@@ -16,7 +16,7 @@ use hir::scratch::Scratch;
 use hir::span::Span;
 use reactive::code::Code;
 use reactive::given::GivenRow;
-use reactive::row::RowHead;
+use reactive::row::{OpenRow, RowHead};
 use reactive::source::TreeSource;
 use walk::visitor::Visitor;
 use walk::walking::walk;
@@ -140,7 +140,7 @@ impl PromoteInterposed {
 }
 
 // The parent, where that is an Instruction.
-fn as_instruction(parent: Option<RowHead>) -> Option<RowHead>
+fn as_instruction(parent: Option<OpenRow>) -> Option<OpenRow>
     ensures { result ≡ instruction_in parent }
 {
     parent.filter(|row| row.is(Code::Instruction))
@@ -155,7 +155,7 @@ impl Visitor for PromoteInterposed {
         &mut self,
         env: &mut Environment,
         scratch: &mut Scratch,
-        parent: Option<RowHead>,
+        parent: Option<OpenRow>,
         row: &GivenRow<S>,
     ) {
         let head = row.head();
@@ -174,7 +174,7 @@ impl Visitor for PromoteInterposed {
         }
     }
 
-    fn leave(&mut self, _env: &mut Environment, _scratch: &mut Scratch, _row: &RowHead) {}
+    fn leave(&mut self, _env: &mut Environment, _scratch: &mut Scratch, _row: &OpenRow) {}
 }
 
 // Own parameters are constant from the start. Every pass loops over its lists itself: a rule of this project.

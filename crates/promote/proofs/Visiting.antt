@@ -17,7 +17,7 @@ use Rattle.reactive.specs.declared.row.Number.{Number}
 use Rattle.reactive.specs.declared.row.Number.TheVariants as numbers
 use Rattle.reactive.specs.Numbers.{scope_in, function_in}
 use Rattle.reactive.specs.Rows.{Row}
-use Rattle.reactive.specs.Sound.{HeadSound, RowSound}
+use Rattle.reactive.specs.Sound.{OpenSound, RowSound}
 use Rattle.walk.proofs.Acting.{Splits}
 use Rattle.walk.proofs.Fitting.{each_acts, each_cond}
 use Rattle.promote.specs.Growth.{Grows, none}
@@ -205,7 +205,7 @@ pub ready_rows : (t : Tables) (rs : List Row) → Sound t → Each (RowSound t.e
 ready_rows t rs s h =
     record {
       sound = s;
-      fits = each_acts (RowSound t.env) (HeadSound t.env) (λ r k. k.names) acts (Fits t.env) (λ p r w k. fits_number t.env r.code r.number k.names.scope k.names.function) (λ q k. tt) [] rs tt h;
+      fits = each_acts (RowSound t.env) (OpenSound t.env) (λ r k. k.names) acts (Fits t.env) (λ p r w k. fits_number t.env r.code r.number k.names.scope k.names.function) (λ q k. tt) [] rs tt h;
     }
 
 unmarked_few : (ms : List Bool) → unmarked ms ≤ length ms

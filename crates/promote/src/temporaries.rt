@@ -17,7 +17,7 @@ use hir::span::Span;
 use hir::tables::Reason;
 use reactive::code::Code;
 use reactive::given::GivenRow;
-use reactive::row::{Number, RowHead};
+use reactive::row::{Number, OpenRow};
 use reactive::source::TreeSource;
 use walk::visitor::Visitor;
 use walk::walking::walk;
@@ -97,7 +97,7 @@ impl Visitor for PromoteTemporaries {
         &mut self,
         env: &mut Environment,
         scratch: &mut Scratch,
-        _parent: Option<RowHead>,
+        _parent: Option<OpenRow>,
         row: &GivenRow<S>,
     ) {
         let row = row.head();
@@ -111,7 +111,7 @@ impl Visitor for PromoteTemporaries {
         }
     }
 
-    fn leave(&mut self, _env: &mut Environment, _scratch: &mut Scratch, _row: &RowHead) {}
+    fn leave(&mut self, _env: &mut Environment, _scratch: &mut Scratch, _row: &OpenRow) {}
 }
 
 // Names own parameters, and then by row what scopes take, what escaped, and inner parameters.

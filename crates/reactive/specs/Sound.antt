@@ -6,17 +6,18 @@ use Rattle.hir.specs.declared.ids.ScopeId.{ScopeId}
 use Rattle.hir.specs.Environments.{Model}
 use Rattle.hir.specs.Lists.{Each}
 use Rattle.hir.specs.Sound.{Known, KnownFunction, KnownScope}
-use Rattle.reactive.specs.declared.row.RowHead.{RowHead}
+use Rattle.reactive.specs.declared.row.OpenRow.{OpenRow}
 use Rattle.reactive.specs.Numbers.{scope_in, function_in}
+use Rattle.reactive.specs.Open.{open_row}
 use Rattle.reactive.specs.Rows.{Row, head}
 
--- what a row without its lists names has a row
-pub record HeadSound (m : Model) (h : RowHead) : Type 0 where
+-- what a row names besides its lists has a row
+pub record OpenSound (m : Model) (h : OpenRow) : Type 0 where
   pub identifier : (i : IdentifierId) → h.identifier ≡ Some i → Known m i
   pub scope : (s : ScopeId) → scope_in h.number ≡ Some s → KnownScope m s
   pub function : (f : FunctionId) → function_in h.number ≡ Some f → KnownFunction m f
 
 pub record RowSound (m : Model) (r : Row) : Type 0 where
-  pub names : HeadSound m (head r)
+  pub names : OpenSound m (open_row (head r))
   pub operands : Each (Known m) r.operands
   pub marks : Each (Known m) r.marks

@@ -1,7 +1,8 @@
-ghost use Rattle.std.specs.Prelude.{◌≡◌, ◌==◌};
+ghost use Rattle.std.specs.Prelude.{◌≡◌, ◌==◌, Some};
 ghost use Rattle.reactive.specs.Codes.{code_number, used_in};
 ghost use Rattle.reactive.specs.Kinds.{kind_number};
 ghost use Rattle.reactive.specs.Numbers.{scope_in, function_in};
+ghost use Rattle.reactive.specs.Open.{open_row};
 
 use crate::code::Code;
 use crate::kind::Kind;
@@ -12,6 +13,42 @@ use hir::ids::{FunctionId, IdentifierId, ScopeId};
 pub enum Number {
     Scope(ScopeId),
     Function(FunctionId),
+}
+
+impl Number {
+    // The scope, where it is one.
+    fn scope(self) -> Option<ScopeId>
+        ensures { result ≡ scope_in (Some self) }
+    {
+        match self {
+            Number::Scope(scope) => Some(scope),
+            Number::Function(_) => None,
+        }
+    }
+}
+
+// What of a row is asked for while it is open: a walk keeps no more of it, so that little is copied.
+#[derive(Clone, Copy, Default)]
+pub struct OpenRow {
+    pub code: u8,
+    pub identifier: Option<IdentifierId>,
+    pub number: Option<Number>,
+}
+
+impl OpenRow {
+    // Whether the row has this code.
+    pub fn is(&self, code: Code) -> bool
+        ensures { result ≡ (self.now.code == code_number code) }
+    {
+        self.code == code as u8
+    }
+
+    // The scope that the row names.
+    pub fn scope(&self) -> Option<ScopeId>
+        ensures { result ≡ scope_in self.now.number }
+    {
+        self.number?.scope()
+    }
 }
 
 // A row without its two lists, of which it has the lengths. Its bytes are unchecked.
@@ -33,6 +70,17 @@ impl RowHead {
         ensures { result ≡ (self.now.code == code_number code) }
     {
         self.code == code as u8
+    }
+
+    // What is kept of it while it is open.
+    pub fn opened(&self) -> OpenRow
+        ensures { result ≡ open_row self.now }
+    {
+        OpenRow {
+            code: self.code,
+            identifier: self.identifier,
+            number: self.number,
+        }
     }
 
     // Whether the row has this kind.
@@ -57,10 +105,7 @@ impl RowHead {
     pub fn scope(&self) -> Option<ScopeId>
         ensures { result ≡ scope_in self.now.number }
     {
-        match self.number {
-            Some(Number::Scope(scope)) => Some(scope),
-            _ => None,
-        }
+        self.number?.scope()
     }
 
     // The function that the row names.

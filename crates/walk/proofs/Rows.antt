@@ -3,7 +3,9 @@ use Rattle.std.proofs.Common.{◌≡◌, ◌<◌, true, List, [], ◌∷◌, ◌
 use Rattle.std.proofs.lemmas.List.Sums.{fold-append}
 use Rattle.hir.specs.Lists.{Each}
 use Rattle.std.specs.List.{fold}
+use Rattle.reactive.specs.declared.row.OpenRow.{OpenRow}
 use Rattle.reactive.specs.declared.row.RowHead.{RowHead}
+use Rattle.reactive.specs.Open.{open_row}
 use Rattle.reactive.specs.Rows.{Reading, head, left, upcoming, advanced, given, last_row, no_row}
 use Rattle.reactive.proofs.Steps.{gives, ended}
 use Rattle.walk.specs.Events.{Event, entering, closing, staying, innermost_of, events, Allowed, Shallow}
@@ -42,12 +44,12 @@ module _ {W : Type 0} (can : W → Event → Type 0) (after : W → Event → W)
   onward_end start at all rest o e = sym (onward_same start at all rest [] o e).same
 
   -- the rows so far were walked, and these rows are open
-  pub record Walking (start at : W) (first s : Reading) (around : List RowHead) : Type 0 where
+  pub record Walking (start at : W) (first s : Reading) (around : List OpenRow) : Type 0 where
     pub same : s.rows ≡ first.rows
     pub shallow : Each Shallow (left s)
     pub onward : Onward start at (events [] first.rows) (events around (left s))
 
-  module _ (start at : W) (first s t : Reading) (around : List RowHead) (inv : Walking start at first s around) (row : RowHead) (gave : Some row ≡ upcoming s) (on : t ≡ advanced s) where
+  module _ (start at : W) (first s t : Reading) (around : List OpenRow) (inv : Walking start at first s around) (row : RowHead) (gave : Some row ≡ upcoming s) (on : t ≡ advanced s) where
     last_is : last_row t ≡ (gives s row gave).item
     last_is = ap last_row on ∙ ap (λ o. unwrap_or o no_row) (gives s row gave).last
 
@@ -69,32 +71,32 @@ module _ {W : Type 0} (can : W → Event → Type 0) (after : W → Event → W)
     pub shrinks : length (left t) < length (left s)
     shrinks = let e = ap length rest_is in omega arith
 
-    stay : List RowHead
+    stay : List OpenRow
     stay = staying row.depth around
 
-    split : events around (left s) ≡ closing row.depth around ++ (entering (innermost_of stay) (last_row t) ∷ events (row ∷ stay) (left t))
+    split : events around (left s) ≡ closing row.depth around ++ (entering (innermost_of stay) (last_row t) ∷ events (open_row row ∷ stay) (left t))
     unfolding stay
     split =
         ap (events around) rest_is
-        ∙ (λ i. closing (depth_is i) around ++ (entering (innermost_of (staying (depth_is i) around)) (last_row t) ∷ events (sym row_last i ∷ staying (depth_is i) around) (left t)))
+        ∙ (λ i. closing (depth_is i) around ++ (entering (innermost_of (staying (depth_is i) around)) (last_row t) ∷ events (open_row (sym row_last i) ∷ staying (depth_is i) around) (left t)))
 
-    splits : Onward start at (events [] first.rows) (closing row.depth around ++ (entering (innermost_of stay) (last_row t) ∷ events (row ∷ stay) (left t)))
+    splits : Onward start at (events [] first.rows) (closing row.depth around ++ (entering (innermost_of stay) (last_row t) ∷ events (open_row row ∷ stay) (left t)))
     splits = onward_same start at _ _ _ inv.onward split
 
     pub closes : Allowed can after at (closing row.depth around)
     closes = onward_front start at _ (closing row.depth around) _ splits
 
-    module _ (mid : W) (parent : Option RowHead) (closed : mid ≡ fold after at (closing row.depth around)) (is : parent ≡ innermost_of (staying row.depth around)) where
-      enters : Onward start mid (events [] first.rows) (entering parent (last_row t) ∷ events (row ∷ staying row.depth around) (left t))
+    module _ (mid : W) (parent : Option OpenRow) (closed : mid ≡ fold after at (closing row.depth around)) (is : parent ≡ innermost_of (staying row.depth around)) where
+      enters : Onward start mid (events [] first.rows) (entering parent (last_row t) ∷ events (open_row row ∷ staying row.depth around) (left t))
       unfolding stay
       enters =
           onward_same start mid _ _ _ (onward_over start at mid _ (closing row.depth around) _ splits closed)
-          (ap (λ p. entering p (last_row t) ∷ events (row ∷ staying row.depth around) (left t)) (sym is))
+          (ap (λ p. entering p (last_row t) ∷ events (open_row row ∷ staying row.depth around) (left t)) (sym is))
 
       pub may_enter : can mid (entering parent (last_row t))
       may_enter = enters.allowed.0
 
-      pub walked : (next : W) → next ≡ after mid (entering parent (last_row t)) → Walking start next first t (row ∷ staying row.depth around)
+      pub walked : (next : W) → next ≡ after mid (entering parent (last_row t)) → Walking start next first t (open_row row ∷ staying row.depth around)
       walked next e =
           record {
             same = ap (λ (r : Reading). r.rows) on ∙ inv.same;
@@ -103,7 +105,7 @@ module _ {W : Type 0} (can : W → Event → Type 0) (after : W → Event → W)
           }
 
   -- the last row was walked
-  module _ (start at : W) (first s : Reading) (around : List RowHead) (inv : Walking start at first s around) (gave : None ≡ upcoming s) where
+  module _ (start at : W) (first s : Reading) (around : List OpenRow) (inv : Walking start at first s around) (gave : None ≡ upcoming s) where
     finishing : Onward start at (events [] first.rows) (closing 0 around)
     finishing = onward_same start at _ _ _ inv.onward (ap (events around) (ended s gave).0)
 

@@ -2,7 +2,8 @@
 use Rattle.std.specs.Prelude.{ℕ, ◌<◌, cond, List, [], ◌∷◌, ◌++◌, length, Some, None, Option, nat_le}
 use Rattle.std.specs.List.{fold}
 use Rattle.hir.specs.Scratches.{Tables}
-use Rattle.reactive.specs.declared.row.RowHead.{RowHead}
+use Rattle.reactive.specs.declared.row.OpenRow.{OpenRow}
+use Rattle.reactive.specs.Open.{open_row}
 use Rattle.reactive.specs.Rows.{Row, head}
 
 -- a visitor with the tables that it writes
@@ -15,29 +16,29 @@ whole v t = record { visitor = v; tables = t }
 
 -- a row is entered, within its parent, or left
 pub data Event : Type 0 where
-  entering : Option RowHead → Row → Event
-  leaving : RowHead → Event
+  entering : Option OpenRow → Row → Event
+  leaving : OpenRow → Event
 
 -- of the open rows, innermost first, those with d or more around them are left
-abbrev pub closing : ℕ → List RowHead → List Event
+abbrev pub closing : ℕ → List OpenRow → List Event
 closing d [] = []
 closing d (r ∷ around) = cond (nat_le d (length around)) (leaving r ∷ closing d around) []
 
 -- the others stay open
-abbrev pub staying : ℕ → List RowHead → List RowHead
+abbrev pub staying : ℕ → List OpenRow → List OpenRow
 staying d [] = []
 staying d (r ∷ around) = cond (nat_le d (length around)) (staying d around) (r ∷ around)
 
-abbrev pub innermost_of : List RowHead → Option RowHead
+abbrev pub innermost_of : List OpenRow → Option OpenRow
 innermost_of [] = None
 innermost_of (r ∷ around) = Some r
 
 -- the events of rows, with these rows open, innermost first
-abbrev pub events : List RowHead → List Row → List Event
+abbrev pub events : List OpenRow → List Row → List Event
 events around [] = closing 0 around
 events around (r ∷ rs) =
     closing r.depth around
-    ++ (entering (innermost_of (staying r.depth around)) r ∷ events (head r ∷ staying r.depth around) rs)
+    ++ (entering (innermost_of (staying r.depth around)) r ∷ events (open_row (head r) ∷ staying r.depth around) rs)
 
 -- each event may come where it comes
 abbrev pub Allowed : {W : Type 0} → (W → Event → Type 0) → (W → Event → W) → W → List Event → Type 0

@@ -5,7 +5,7 @@ ghost use Rattle.walk.specs.Events.{Whole, whole, Event, entering, leaving};
 use hir::environment::Environment;
 use hir::scratch::Scratch;
 use reactive::given::GivenRow;
-use reactive::row::RowHead;
+use reactive::row::OpenRow;
 use reactive::source::TreeSource;
 
 // A pass over a tree.
@@ -21,14 +21,14 @@ pub trait Visitor {
         &mut self,
         env: &mut Environment,
         scratch: &mut Scratch,
-        parent: Option<RowHead>,
+        parent: Option<OpenRow>,
         row: &GivenRow<S>,
     )
         requires { can (whole self.old (tables env.old scratch.old)) (entering parent row.now) }
         ensures { whole self.new (tables env.new scratch.new) ≡ after (whole self.old (tables env.old scratch.old)) (entering parent row.now) };
 
     // A row is left, after all rows within it.
-    fn leave(&mut self, env: &mut Environment, scratch: &mut Scratch, row: &RowHead)
+    fn leave(&mut self, env: &mut Environment, scratch: &mut Scratch, row: &OpenRow)
         requires { can (whole self.old (tables env.old scratch.old)) (leaving row.now) }
         ensures { whole self.new (tables env.new scratch.new) ≡ after (whole self.old (tables env.old scratch.old)) (leaving row.now) };
 }

@@ -11,12 +11,12 @@ use hir::environment::Environment;
 use hir::scratch::Scratch;
 use hir::span::MOST_OPEN;
 use reactive::given::GivenRow;
-use reactive::row::RowHead;
+use reactive::row::OpenRow;
 use reactive::source::TreeSource;
 
 // Leaves the open rows from a depth on, innermost first: in this order `pop` takes them, which a drain would have to turn.
 fn close<V: Visitor>(
-    opened: &mut FixedStack<RowHead, MOST_OPEN>,
+    opened: &mut FixedStack<OpenRow, MOST_OPEN>,
     depth: usize,
     visitor: &mut V,
     env: &mut Environment,
@@ -45,13 +45,13 @@ pub fn walk<S: TreeSource, V: Visitor>(
     ensures after { whole visitor.new (tables env.new scratch.new) ≡ fold V.Visitor.after (whole visitor.old (tables env.old scratch.old)) (events [] (S.TreeSource.reading source.old).rows) }
     ensures source { S.TreeSource.reading source.new ≡ rewound (S.TreeSource.reading source.old) }
 {
-    let mut opened: FixedStack<RowHead, MOST_OPEN> = FixedStack::new();
+    let mut opened: FixedStack<OpenRow, MOST_OPEN> = FixedStack::new();
     source.rewind();
     while let Some(row) = source.next() {
         close(&mut opened, row.depth as usize, visitor, env, scratch);
         let parent = opened.last().copied();
         visitor.enter(env, scratch, parent, &GivenRow::new(row, source));
-        opened.push(row);
+        opened.push(row.opened());
     }
     close(&mut opened, 0, visitor, env, scratch);
     source.rewind();

@@ -1,8 +1,9 @@
-use Rattle.std.proofs.Common.{◌-◌, length, sym, ap, ◌∙◌, subst, arith}
+use Rattle.std.proofs.Common.{◌-◌, [], ◌∷◌, ◌++◌, length, sym, ap, ◌∙◌, subst, arith}
 use Rattle.std.proofs.lemmas.List.{length-take}
 use Rattle.std.specs.List.{slice_get}
 use Rattle.hir.specs.Scratches.{tables}
 use Rattle.reactive.specs.Rows.{Reading}
+use Rattle.reactive.specs.Open.{open_row}
 use Rattle.walk.specs.Events.{whole, entering}
 use Rattle.walk.proofs.Opened.{parent_last, entered}
 use Rattle.walk.proofs.Rows.{Walking, some_last, row_last, deep, closes, shrinks, may_enter, walked, closes_all, walked_all}
@@ -39,7 +40,7 @@ loop-row-preserved g c =
     let mid = c.close.new.opened in
     let last = c.copied-parent.ensures ∙ c.last.ensures.value ∙ ap (λ xs. slice_get xs (length xs - 1)) c.deref.ensures.0 in
     let on = c.enter.ensures ∙ ap (λ r. g.V.Visitor.after (whole c.close.new.visitor (tables c.close.new.env c.close.new.scratch)) (entering c.copied-parent.result r)) c.new.ensures in
-    subst (Walking _ _ _ _ _ _) (entered rs mid c.push.new.self c.in-Some.row.depth c.in-Some.row c.close.ensures.rows c.push.ensures)
+    subst (Walking _ _ _ _ _ _) (entered rs mid c.push.new.self c.in-Some.row.depth (open_row c.in-Some.row) c.close.ensures.rows (c.push.ensures ∙ ap (λ o. mid ++ o ∷ []) c.opened.ensures))
     (walked _ _ _ _ _ _ _ _ c.loop-row.invariant c.in-Some.row c.in-Some.ensures.value c.next.ensures.after _ _ c.close.ensures.after (parent_last rs mid c.in-Some.row.depth _ c.close.ensures.rows last) _ on)
 
 pub close-requires-2 : goal.close-requires-2
