@@ -69,7 +69,7 @@ impl RowHead {
     pub fn is(&self, code: Code) -> bool
         ensures { result ≡ (self.now.code == code_number code) }
     {
-        self.code == code as u8
+        self.opened().is(code)
     }
 
     // What is kept of it while it is open.
@@ -105,7 +105,7 @@ impl RowHead {
     pub fn scope(&self) -> Option<ScopeId>
         ensures { result ≡ scope_in self.now.number }
     {
-        self.number?.scope()
+        self.opened().scope()
     }
 
     // The function that the row names.

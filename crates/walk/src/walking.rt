@@ -50,8 +50,8 @@ pub fn walk<S: TreeSource, V: Visitor>(
     while let Some(row) = source.next() {
         close(&mut opened, row.depth as usize, visitor, env, scratch);
         let parent = opened.last().copied();
-        visitor.enter(env, scratch, parent, &GivenRow::new(row, source));
         opened.push(row.opened());
+        visitor.enter(env, scratch, parent, &GivenRow::new(row, source));
     }
     close(&mut opened, 0, visitor, env, scratch);
     source.rewind();
