@@ -208,6 +208,18 @@ ready_rows t rs s h =
       fits = each_acts (RowSound t.env) (OpenSound t.env) (λ r k. k.names) acts (Fits t.env) (λ p r w k. fits_number t.env r.code r.number k.names.scope k.names.function) (λ q k. tt) [] rs tt h;
     }
 
+-- the pass can go on after own parameters are named
+pub ready_listed : (b on : Tables) (is : List IdentifierId) (todo : List Act) → Ready b todo → Each (Known b.env) is → on ≡ fold (promote_unnamed reasons.OwnParameter) b is → Ready on todo
+ready_listed b on is todo ready known e =
+    ready_grows b on todo ready (subst (Grows b) (sym e) (grows_each (promote_unnamed reasons.OwnParameter) (grows_unnamed reasons.OwnParameter) b is ready.sound known))
+
+-- where there is neither a scope nor a function, no act fits
+pub no_acts : (m : Model) (todo : List Act) → length m.scopes ≡ 0 → length m.functions ≡ 0 → Each (Fits m) todo → todo ≡ []
+no_acts m [] s f h = refl
+no_acts m (scope x ∷ todo) s f h = absurd (let k = h.0 in omega arith)
+no_acts m (pruned x ∷ todo) s f h = absurd (let k = h.0 in omega arith)
+no_acts m (inner x ∷ todo) s f h = absurd (let k = h.0 in omega arith)
+
 unmarked_few : (ms : List Bool) → unmarked ms ≤ length ms
 unmarked_few [] = omega arith
 unmarked_few (true ∷ ms) = let h = unmarked_few ms in omega arith

@@ -128,6 +128,11 @@ pub fn promote_temporaries<S: TreeSource>(
     ensures source { S.TreeSource.reading source.new ≡ rewound (S.TreeSource.reading source.old) }
 {
     promote_list(env, scratch, parameters, Reason::OwnParameter);
+    // Where there is neither a scope nor a function, no row names one.
+    if env.scopes.is_empty() && env.functions.is_empty() {
+        source.rewind();
+        return;
+    }
     let mut visitor = PromoteTemporaries;
     walk(source, &mut visitor, env, scratch);
 }
