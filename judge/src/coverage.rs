@@ -38,6 +38,11 @@ pub fn deciders(changes: &[Change], input: &Input, answer: &Answer) -> Vec<usize
         .collect()
 }
 
+/// Whether a rule decides an input.
+pub fn decides(change: Change, input: &Input) -> bool {
+    model::changed_answer(input, Some(change)) != model::answer(input)
+}
+
 impl Coverage {
     /// Counts what an input holds and what was named in it.
     pub fn count(&mut self, input: &Input, answer: &Answer) {

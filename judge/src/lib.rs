@@ -5,6 +5,8 @@ pub mod answer;
 pub mod child;
 pub mod coverage;
 #[cfg(feature = "trace")]
+pub mod definitions;
+#[cfg(feature = "trace")]
 pub mod drive;
 pub mod exhaustive;
 pub mod generate;

@@ -6,11 +6,14 @@ use std::process::exit;
 
 use judge::drive::Session;
 use judge::input::Input;
-use judge::{exhaustive, generate, image, model, oracle, possible, print, record, rules};
+use judge::{
+    definitions, exhaustive, generate, image, model, oracle, possible, print, record, rules,
+};
 
 const USAGE: &str =
     "judge bounded [PROGRAM..] | long SEED COUNT [PROGRAM..] | exhaustive [PROGRAM..]
-      | record FOLDER | verify FOLDER | answer | model | changed RULE | show";
+      | record FOLDER | verify FOLDER FILE | definitions FOLDER FILE
+      | answer | model | changed RULE | show";
 
 /// The bounded run: so many seeds, and every so manieth function of the alphabets.
 const BOUNDED_SEED: u64 = 1;
@@ -27,7 +30,14 @@ fn main() {
         ["long", seed, count, ref rest @ ..] => long(number(seed), number(count), program(rest)),
         ["exhaustive", ref rest @ ..] => all_short(program(rest)),
         ["record", folder] => record::write(Path::new(folder)),
-        ["verify", folder] => verify(Path::new(folder)),
+        ["verify", folder, file] => {
+            verify(Path::new(folder));
+            verify_definitions(Path::new(folder), Path::new(file));
+        }
+        ["definitions", folder, file] => {
+            let text = definitions::text(&inputs(Path::new(folder)));
+            std::fs::write(file, text).expect("the file can be written");
+        }
         ["answer"] => each_line(|input| oracle::answer(input).to_string()),
         ["changed", ref title @ ..] => changed(&title.join(" ")),
         ["model"] => each_line(|input| model::answer(input).to_string()),
@@ -100,18 +110,34 @@ fn all_short(program: Vec<String>) {
 
 /// Checks that the recorded answers are those of the Rust and of the model.
 fn verify(folder: &Path) {
-    let file = |name: &str| std::fs::read_to_string(folder.join(name)).expect("a recorded file");
-    let (inputs, answers) = (file("stdin"), file("stdout"));
-    assert_eq!(inputs.lines().count(), answers.lines().count(), "as many answers as inputs");
-    for (at, (line, answer)) in inputs.lines().zip(answers.lines()).enumerate() {
-        let input = read(line).expect("a recorded image");
-        let given = [oracle::answer(&input).to_string(), model::answer(&input).to_string()];
+    let (inputs, answers) = (inputs(folder), file(folder, "stdout"));
+    assert_eq!(inputs.len(), answers.lines().count(), "as many answers as inputs");
+    for (at, (input, answer)) in inputs.iter().zip(answers.lines()).enumerate() {
+        let given = [oracle::answer(input).to_string(), model::answer(input).to_string()];
         if given.iter().any(|given| given != answer) {
             println!("line {}: recorded {answer}, Rust {}, model {}", at + 1, given[0], given[1]);
             exit(1);
         }
     }
-    println!("{} recorded answers are those of the Rust and of the model", inputs.lines().count());
+    println!("{} recorded answers are those of the Rust and of the model", inputs.len());
+}
+
+/// Checks that the file of functions for the checker is what would be written.
+fn verify_definitions(folder: &Path, path: &Path) {
+    if definitions::text(&inputs(folder)) != std::fs::read_to_string(path).expect("the file") {
+        println!("{} is not what the mode definitions writes", path.display());
+        exit(1);
+    }
+    println!("{} has recorded functions and the answers of the Rust", path.display());
+}
+
+/// The recorded inputs of a folder.
+fn inputs(folder: &Path) -> Vec<Input> {
+    file(folder, "stdin").lines().map(|line| read(line).expect("a recorded image")).collect()
+}
+
+fn file(folder: &Path, name: &str) -> String {
+    std::fs::read_to_string(folder.join(name)).expect("a recorded file")
 }
 
 fn read(line: &str) -> Result<Input, String> {

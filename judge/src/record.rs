@@ -5,10 +5,10 @@ use std::fmt::Write;
 use std::fs;
 use std::path::Path;
 
-use crate::coverage::deciders;
+use crate::coverage::{deciders, decides};
 use crate::input::Input;
 use crate::rules::{self, Change};
-use crate::{generate, image, model, oracle, shrink};
+use crate::{generate, image, oracle, shrink};
 
 /// For each rule so many functions are shrunk as long as the rule decides them, and so many
 /// are kept as they were drawn.
@@ -84,7 +84,7 @@ impl Selection {
                 self.attempts[at] += 1;
                 let change = self.changes[at];
                 let small =
-                    shrink::smallest(&input, |all| all.iter().position(|i| decides(i, change)));
+                    shrink::smallest(&input, |all| all.iter().position(|i| decides(change, i)));
                 if self.known.insert(small.clone()) {
                     self.shrunk[at] += 1;
                     self.small.push(small);
@@ -96,10 +96,6 @@ impl Selection {
             self.plain.push(input);
         }
     }
-}
-
-fn decides(input: &Input, change: Change) -> bool {
-    model::changed_answer(input, Some(change)) != model::answer(input)
 }
 
 /// The first functions with many rows, one of them as deep as rows may be.
@@ -132,9 +128,7 @@ fn save(folder: &Path, inputs: &[Input], changes: &[Change]) {
         }
     }
     let coverage = coverage(inputs.len(), changes, &places);
-    for (name, text) in
-        [("stdin", lines), ("stdout", answers), ("coverage.txt", coverage)]
-    {
+    for (name, text) in [("stdin", lines), ("stdout", answers), ("coverage.txt", coverage)] {
         fs::write(folder.join(name), text).expect("the folder can be written");
     }
     let least = places.iter().map(Vec::len).min().unwrap_or(0);
