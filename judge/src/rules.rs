@@ -36,6 +36,7 @@ pub enum Change {
     EscapeByScopeRow,
     EscapeByIdentifier,
     EscapeByEarlierUse,
+    EscapeByLastUse,
     PrunedIsActive,
     AlwaysEscaped,
     // Reason 4.
@@ -130,8 +131,8 @@ pub fn all() -> Vec<Change> {
     list.extend([ReassignmentsNamed, DeclarationsFirst]);
     list.extend([EscapeOmitted, EscapeOfDependencies, EscapeWithoutScope]);
     list.extend([EscapeByInnermostRecorded, EscapeByAnyActive, EscapeKept, EscapeAtRow]);
-    list.extend([EscapeByScopeRow, EscapeByIdentifier, EscapeByEarlierUse, PrunedIsActive]);
-    list.extend([AlwaysEscaped, InnerOmitted(17), InnerOmitted(30), NestedOmitted]);
+    list.extend([EscapeByScopeRow, EscapeByIdentifier, EscapeByEarlierUse, EscapeByLastUse]);
+    list.extend([PrunedIsActive, AlwaysEscaped, InnerOmitted(17), InnerOmitted(30), NestedOmitted]);
     list.extend([DeeplyNestedOmitted, NestedFirst, BreadthFirst, InnerLast]);
     interposed(&mut list);
     list.extend([InstancesOmitted, LvalueOmitted, LvalueAfterValue, PrunedDeclarationsOmitted]);

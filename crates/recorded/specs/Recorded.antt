@@ -1,4 +1,4 @@
--- 224 recorded functions: of each changed rule the first that it alters. Made by `judge/run definitions`. Assumes nothing.
+-- 225 recorded functions: of each changed rule the first that it alters. Made by `judge/run definitions`. Assumes nothing.
 use Rattle.std.specs.Prelude.{List, [], ◌∷◌}
 use Rattle.hir.specs.declared.tables.Reason.TheVariants as reasons
 use Rattle.reactive.specs.declared.code.Code.TheVariants as codes
@@ -1133,4 +1133,10 @@ functions =
     (numbered 1 codes.Scope 0 ∷ row 2 codes.Block ∷ numbered 3 codes.Pruned 1 ∷ row 4 codes.Block ∷ numbered 1 codes.Scope 1 ∷
     row 2 codes.Block ∷ numbered 3 codes.Scope 0 ∷ row 4 codes.Block ∷ identified 5 codes.Return 0 ∷ [])
     ((0, reasons.Scope) ∷ []) (2 ∷ []) ∷ []) ∷
+    -- line 2502: EscapeByLastUse
+    recorded ((0, 0) ∷ (2, 0) ∷ (0, 0) ∷ (3, 0) ∷ (4, 0) ∷ (5, 0) ∷ []) (((3 ∷ 3 ∷ 3 ∷ []), (3 ∷ []), []) ∷ ((4 ∷ []), (3 ∷ []), (1 ∷ 3 ∷ [])) ∷ ((3 ∷ []), (5 ∷ []), (4 ∷ 3 ∷ 1 ∷ [])) ∷ ([], (3 ∷ 3 ∷ 3 ∷ []), (3 ∷ [])) ∷ []) (((4 ∷ 4 ∷ []), (1 ∷ 1 ∷ 1 ∷ [])) ∷ ([], []) ∷ []) (run (2 ∷ [])
+    (numbered 1 codes.Pruned 0 ∷ row 2 codes.Block ∷ row 3 codes.Instruction ∷ leaf 4 kinds.TaggedTemplateExpression (3 ∷ []) [] ∷
+    numbered 1 codes.Scope 1 ∷ row 2 codes.Block ∷ numbered 3 codes.Scope 0 ∷ row 4 codes.Block ∷ identified 5 codes.Switch 3 ∷
+    row 6 codes.Case ∷ identified 1 codes.Instruction 3 ∷ leaf 2 kinds.JsxFragment (3 ∷ 3 ∷ []) [] ∷ [])
+    ((2, reasons.OwnParameter) ∷ (3, reasons.Escape) ∷ (4, reasons.Scope) ∷ []) (0 ∷ 0 ∷ 2 ∷ 2 ∷ 2 ∷ 0 ∷ []) ∷ []) ∷
     []

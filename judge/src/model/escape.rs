@@ -83,11 +83,18 @@ impl Model<'_> {
             .collect();
         let judged = if self.is(Change::EscapeKept) { 0 } else { mine.len().saturating_sub(1) };
         mine[judged..].iter().any(|recording| {
+            let later = |used: &&Use| {
+                let later = used.at > recording.at || self.is(Change::EscapeByEarlierUse);
+                later && same(used.identifier)
+            };
+            let mut outside =
+                uses.iter().filter(later).map(|used| self.outside(state, recording, used));
             self.is(Change::AlwaysEscaped)
-                || uses.iter().any(|used| {
-                    let later = used.at > recording.at || self.is(Change::EscapeByEarlierUse);
-                    later && same(used.identifier) && self.outside(state, recording, used)
-                })
+                || if self.is(Change::EscapeByLastUse) {
+                    outside.next_back().unwrap_or(false)
+                } else {
+                    outside.any(|outside| outside)
+                }
         })
     }
 
