@@ -70,6 +70,8 @@ struct State<'t> {
     start: Vec<u8>,
     letters: HashSet<u32>,
     journal: Vec<(u32, u8)>,
+    /// The declarations of what is covered and has a name; a change looks at them.
+    covered: Vec<u32>,
 }
 
 impl<'i> Model<'i> {
@@ -93,6 +95,7 @@ impl<'i> Model<'i> {
             start: self.tags.clone(),
             letters: HashSet::new(),
             journal: Vec::new(),
+            covered: Vec::new(),
         };
         self.flatten(&mut state, &tree.body, None, &mut Vec::new());
         self.letters(&mut state);
@@ -124,7 +127,7 @@ impl<'i> Model<'i> {
         for child in &row.children {
             self.flatten(state, child, Some(at), active);
         }
-        if pushes {
+        if pushes && !self.is(Change::ScopeStaysActive) {
             active.pop();
         }
         state.events.push(Event::Leave(at));
@@ -133,6 +136,7 @@ impl<'i> Model<'i> {
     /// Names an unnamed identifier and journals it.
     fn name(&mut self, state: &mut State, identifier: u32, reason: u8) {
         if !self.unnamed(identifier) {
+            state.covered.push(self.declaration(identifier));
             return;
         }
         let key = if self.is(Change::LetterByIdentifier) {

@@ -37,7 +37,9 @@ pub enum Change {
     EscapeByIdentifier,
     EscapeByEarlierUse,
     EscapeByLastUse,
+    EscapeNotTakenBack,
     PrunedIsActive,
+    ScopeStaysActive,
     AlwaysEscaped,
     // Reason 4.
     InnerOmitted(u8),
@@ -89,9 +91,13 @@ pub enum Change {
     ScopeReassignmentsOmitted,
     ScopeListsOnEntering,
     ScopeListsReversed,
+    ScopeDependenciesFirst,
+    ScopeReassignmentsSecond,
     MarksVisited,
     InstancesOfEarlierRuns,
     InstancesOfAuthors,
+    InstancesOfCovered,
+    InstancesOfInterposedOmitted,
     // Letters and runs.
     LetterOmitted,
     LetterByIdentifier,
@@ -132,13 +138,16 @@ pub fn all() -> Vec<Change> {
     list.extend([EscapeOmitted, EscapeOfDependencies, EscapeWithoutScope]);
     list.extend([EscapeByInnermostRecorded, EscapeByAnyActive, EscapeKept, EscapeAtRow]);
     list.extend([EscapeByScopeRow, EscapeByIdentifier, EscapeByEarlierUse, EscapeByLastUse]);
-    list.extend([PrunedIsActive, AlwaysEscaped, InnerOmitted(17), InnerOmitted(30), NestedOmitted]);
+    list.extend([EscapeNotTakenBack, PrunedIsActive, ScopeStaysActive, AlwaysEscaped]);
+    list.extend([InnerOmitted(17), InnerOmitted(30), NestedOmitted]);
     list.extend([DeeplyNestedOmitted, NestedFirst, BreadthFirst, InnerLast]);
     interposed(&mut list);
     list.extend([InstancesOmitted, LvalueOmitted, LvalueAfterValue, PrunedDeclarationsOmitted]);
     list.extend([PrunedDependenciesOmitted, PrunedReassignmentsOmitted]);
     list.extend([ScopeReassignmentsOmitted, ScopeListsOnEntering, ScopeListsReversed]);
+    list.extend([ScopeDependenciesFirst, ScopeReassignmentsSecond]);
     list.extend([MarksVisited, InstancesOfEarlierRuns, InstancesOfAuthors]);
+    list.extend([InstancesOfCovered, InstancesOfInterposedOmitted]);
     list.extend([LetterOmitted, LetterByIdentifier, LetterByOperand, LetterOfEarlierRuns]);
     list.extend([ConstantsKept, TrackingKept, GlobalsKept]);
     list

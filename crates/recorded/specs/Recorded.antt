@@ -1,4 +1,4 @@
--- 225 recorded functions: of each changed rule the first that it alters. Made by `judge/run definitions`. Assumes nothing.
+-- 231 recorded functions: of each changed rule the first that it alters. Made by `judge/run definitions`. Assumes nothing.
 use Rattle.std.specs.Prelude.{List, [], ◌∷◌}
 use Rattle.hir.specs.declared.tables.Reason.TheVariants as reasons
 use Rattle.reactive.specs.declared.code.Code.TheVariants as codes
@@ -575,6 +575,11 @@ functions =
     (identified 1 codes.Instruction 0 ∷ leaf 2 kinds.CallExpression (0 ∷ []) [] ∷ identified 1 codes.Instruction 1 ∷
     leaf 2 kinds.PrefixUpdate (0 ∷ []) [] ∷ identified 1 codes.Return 0 ∷ [])
     ((1, reasons.OwnParameter) ∷ (0, reasons.Interposed) ∷ []) (2 ∷ 2 ∷ []) ∷ []) ∷
+    -- line 489: InstancesOfInterposedOmitted
+    recorded ((0, 0) ∷ (0, 0) ∷ []) [] [] (run []
+    (identified 1 codes.Instruction 0 ∷ leaf 2 kinds.LoadLocal (1 ∷ []) (1 ∷ []) ∷ row 1 codes.Instruction ∷
+    leaf 2 kinds.PropertyDelete (0 ∷ []) [] ∷ identified 1 codes.Return 0 ∷ [])
+    ((0, reasons.Interposed) ∷ (1, reasons.SameDeclaration) ∷ []) (2 ∷ 2 ∷ []) ∷ []) ∷
     -- line 492: BarrierAdded ObjectMethod
     recorded ((0, 0) ∷ []) [] (([], []) ∷ []) (run []
     (identified 1 codes.Instruction 0 ∷ leaf 2 kinds.PropertyDelete (0 ∷ []) [] ∷ row 1 codes.Instruction ∷
@@ -736,6 +741,10 @@ functions =
     (identified 1 codes.Instruction 0 ∷ leaf 2 kinds.TemplateLiteral [] [] ∷ row 1 codes.Instruction ∷
     leaf 2 kinds.PrefixUpdate (0 ∷ []) [] ∷ row 1 codes.Instruction ∷ leaf 2 kinds.ObjectExpression (0 ∷ []) [] ∷ [])
     [] (0 ∷ []) ∷ []) ∷
+    -- line 695: ScopeReassignmentsSecond
+    recorded ((1, 0) ∷ (1, 0) ∷ (1, 0) ∷ []) (([], (1 ∷ []), []) ∷ ((2 ∷ []), [], (0 ∷ [])) ∷ []) [] (run []
+    (numbered 1 codes.Scope 0 ∷ row 2 codes.Block ∷ numbered 3 codes.Pruned 1 ∷ row 4 codes.Block ∷ [])
+    ((1, reasons.Scope) ∷ (2, reasons.SameDeclaration) ∷ (0, reasons.SameDeclaration) ∷ []) (2 ∷ 2 ∷ 2 ∷ []) ∷ []) ∷
     -- line 701: LvalueIsUse(Interposed)
     recorded ((0, 0) ∷ []) [] [] (run []
     (identified 1 codes.Instruction 0 ∷ leaf 2 kinds.LoadContext (0 ∷ []) (0 ∷ []) ∷ row 1 codes.Instruction ∷
@@ -827,6 +836,10 @@ functions =
     (identified 1 codes.Instruction 0 ∷ leaf 2 kinds.StoreGlobal (0 ∷ []) [] ∷ row 1 codes.Instruction ∷
     leaf 2 kinds.PropertyDelete (0 ∷ []) [] ∷ identified 1 codes.Instruction 0 ∷ leaf 2 kinds.PropertyLoad (0 ∷ []) (0 ∷ []) ∷ [])
     [] (0 ∷ []) ∷ []) ∷
+    -- line 936: ScopeDependenciesFirst
+    recorded ((2, 0) ∷ (1, 0) ∷ (2, 0) ∷ (1, 0) ∷ []) (([], (0 ∷ 3 ∷ []), []) ∷ ((1 ∷ []), (2 ∷ []), []) ∷ []) [] (run []
+    (numbered 1 codes.Scope 0 ∷ row 2 codes.Block ∷ numbered 3 codes.Pruned 1 ∷ row 4 codes.Block ∷ [])
+    ((0, reasons.Scope) ∷ (3, reasons.Scope) ∷ (2, reasons.SameDeclaration) ∷ (1, reasons.SameDeclaration) ∷ []) (2 ∷ 2 ∷ 2 ∷ 2 ∷ []) ∷ []) ∷
     -- line 970: LeafActsUnder For
     recorded ((0, 0) ∷ []) [] [] (run []
     (identified 1 codes.Instruction 0 ∷ mode_leaf 2 kinds.Destructure modes.Const (0 ∷ []) [] ∷ row 1 codes.For ∷
@@ -1049,6 +1062,11 @@ functions =
     (numbered 1 codes.Pruned 0 ∷ row 2 codes.Block ∷ numbered 3 codes.Scope 0 ∷ row 4 codes.Block ∷ numbered 5 codes.Pruned 0 ∷
     row 6 codes.Block ∷ identified 7 codes.Return 0 ∷ [])
     ((0, reasons.Scope) ∷ []) (2 ∷ []) ∷ []) ∷
+    -- line 1654: EscapeNotTakenBack
+    recorded ((0, 0) ∷ []) (([], (0 ∷ []), []) ∷ []) [] (run []
+    (numbered 1 codes.Pruned 0 ∷ row 2 codes.Block ∷ numbered 3 codes.Scope 0 ∷ row 4 codes.Block ∷ identified 5 codes.Return 0 ∷
+    numbered 3 codes.Pruned 0 ∷ row 4 codes.Block ∷ [])
+    ((0, reasons.Scope) ∷ []) (2 ∷ []) ∷ []) ∷
     -- line 1749: UseOmitted Interposed Handler
     recorded ((0, 0) ∷ []) [] [] (run []
     (identified 1 codes.Instruction 0 ∷ leaf 2 kinds.Await (0 ∷ []) [] ∷ row 1 codes.Instruction ∷
@@ -1133,10 +1151,29 @@ functions =
     (numbered 1 codes.Scope 0 ∷ row 2 codes.Block ∷ numbered 3 codes.Pruned 1 ∷ row 4 codes.Block ∷ numbered 1 codes.Scope 1 ∷
     row 2 codes.Block ∷ numbered 3 codes.Scope 0 ∷ row 4 codes.Block ∷ identified 5 codes.Return 0 ∷ [])
     ((0, reasons.Scope) ∷ []) (2 ∷ []) ∷ []) ∷
+    -- line 2340: InstancesOfCovered
+    recorded ((0, 0) ∷ (5, 0) ∷ (2, 0) ∷ (4, 0) ∷ (4, 1) ∷ (5, 0) ∷ (1, 1) ∷ (5, 1) ∷ []) (((3 ∷ 7 ∷ 3 ∷ []), [], (7 ∷ 7 ∷ [])) ∷ ((7 ∷ 7 ∷ 7 ∷ []), [], (4 ∷ 7 ∷ 7 ∷ [])) ∷ ((7 ∷ 7 ∷ 7 ∷ []), (7 ∷ 1 ∷ []), (1 ∷ 7 ∷ [])) ∷ []) (((2 ∷ []), []) ∷ []) (run []
+    (identified 1 codes.Instruction 7 ∷ row 2 codes.Sequence ∷ identified 3 codes.Instruction 3 ∷ row 4 codes.Sequence ∷
+    leaf 5 kinds.LoadGlobal [] [] ∷ identified 3 codes.Instruction 5 ∷ leaf 4 kinds.CallExpression (2 ∷ []) [] ∷
+    identified 3 codes.Instruction 7 ∷ function_leaf 4 kinds.FunctionExpression 0 (1 ∷ 5 ∷ []) ∷
+    mode_leaf 3 kinds.Destructure modes.Let (7 ∷ []) (7 ∷ 7 ∷ []) ∷ [])
+    ((2, reasons.InnerParameter) ∷ []) (0 ∷ 0 ∷ 2 ∷ 0 ∷ 1 ∷ 0 ∷ 1 ∷ 1 ∷ []) ∷ run (7 ∷ [])
+    (numbered 1 codes.Pruned 2 ∷ row 2 codes.Block ∷ identified 3 codes.Instruction 5 ∷ leaf 4 kinds.LoadLocal (1 ∷ []) (1 ∷ []) ∷
+    identified 3 codes.Instruction 5 ∷ leaf 4 kinds.JsxExpression (5 ∷ 7 ∷ []) (5 ∷ []) ∷ row 3 codes.Try ∷ row 4 codes.Block ∷
+    identified 4 codes.Handler 1 ∷ row 5 codes.Block ∷ [])
+    [] (0 ∷ 0 ∷ 2 ∷ 0 ∷ 1 ∷ 0 ∷ 1 ∷ 1 ∷ []) ∷ []) ∷
     -- line 2502: EscapeByLastUse
     recorded ((0, 0) ∷ (2, 0) ∷ (0, 0) ∷ (3, 0) ∷ (4, 0) ∷ (5, 0) ∷ []) (((3 ∷ 3 ∷ 3 ∷ []), (3 ∷ []), []) ∷ ((4 ∷ []), (3 ∷ []), (1 ∷ 3 ∷ [])) ∷ ((3 ∷ []), (5 ∷ []), (4 ∷ 3 ∷ 1 ∷ [])) ∷ ([], (3 ∷ 3 ∷ 3 ∷ []), (3 ∷ [])) ∷ []) (((4 ∷ 4 ∷ []), (1 ∷ 1 ∷ 1 ∷ [])) ∷ ([], []) ∷ []) (run (2 ∷ [])
     (numbered 1 codes.Pruned 0 ∷ row 2 codes.Block ∷ row 3 codes.Instruction ∷ leaf 4 kinds.TaggedTemplateExpression (3 ∷ []) [] ∷
     numbered 1 codes.Scope 1 ∷ row 2 codes.Block ∷ numbered 3 codes.Scope 0 ∷ row 4 codes.Block ∷ identified 5 codes.Switch 3 ∷
     row 6 codes.Case ∷ identified 1 codes.Instruction 3 ∷ leaf 2 kinds.JsxFragment (3 ∷ 3 ∷ []) [] ∷ [])
     ((2, reasons.OwnParameter) ∷ (3, reasons.Escape) ∷ (4, reasons.Scope) ∷ []) (0 ∷ 0 ∷ 2 ∷ 2 ∷ 2 ∷ 0 ∷ []) ∷ []) ∷
+    -- line 2569: ScopeStaysActive
+    recorded ((0, 0) ∷ (1, 0) ∷ (2, 0) ∷ (3, 0) ∷ (4, 0) ∷ (5, 0) ∷ []) (([], (4 ∷ 2 ∷ []), []) ∷ []) (((1 ∷ []), (1 ∷ [])) ∷ ((0 ∷ []), []) ∷ []) (run []
+    (numbered 1 codes.Pruned 0 ∷ row 2 codes.Block ∷ row 3 codes.Try ∷ row 4 codes.Block ∷ identified 4 codes.Handler 4 ∷ row 5 codes.Block ∷
+    numbered 1 codes.Scope 0 ∷ row 2 codes.Block ∷ row 3 codes.Instruction ∷ leaf 4 kinds.FinishMemoize (4 ∷ []) [] ∷
+    identified 1 codes.If 2 ∷ row 2 codes.Block ∷ numbered 3 codes.Scope 0 ∷ row 4 codes.Block ∷ identified 5 codes.Switch 3 ∷
+    row 6 codes.Case ∷ identified 5 codes.Instruction 3 ∷ leaf 6 kinds.CallExpression (3 ∷ 4 ∷ []) [] ∷
+    identified 5 codes.Instruction 3 ∷ leaf 6 kinds.CallExpression (3 ∷ []) [] ∷ [])
+    ((4, reasons.Escape) ∷ (2, reasons.Scope) ∷ []) (0 ∷ 0 ∷ 2 ∷ 0 ∷ 2 ∷ 0 ∷ []) ∷ []) ∷
     []

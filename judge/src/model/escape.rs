@@ -81,21 +81,34 @@ impl Model<'_> {
             .filter(|recording| same(recording.identifier))
             .filter(|recording| !self.is(Change::EscapeAtRow) || recording.at <= at)
             .collect();
-        let judged = if self.is(Change::EscapeKept) { 0 } else { mine.len().saturating_sub(1) };
-        mine[judged..].iter().any(|recording| {
-            let later = |used: &&Use| {
-                let later = used.at > recording.at || self.is(Change::EscapeByEarlierUse);
-                later && same(used.identifier)
-            };
-            let mut outside =
-                uses.iter().filter(later).map(|used| self.outside(state, recording, used));
-            self.is(Change::AlwaysEscaped)
-                || if self.is(Change::EscapeByLastUse) {
-                    outside.next_back().unwrap_or(false)
-                } else {
-                    outside.any(|outside| outside)
-                }
+        let every = self.is(Change::EscapeKept) || self.is(Change::EscapeNotTakenBack);
+        let judged = if every { 0 } else { mine.len().saturating_sub(1) };
+        (judged..mine.len()).any(|place| {
+            let next = mine.get(place + 1).map_or(usize::MAX, |recording| recording.at);
+            let until = if self.is(Change::EscapeNotTakenBack) { next } else { usize::MAX };
+            let used = uses.iter().filter(|used| same(used.identifier) && used.at < until);
+            self.escapes(state, mine[place], used)
         })
+    }
+
+    /// Whether some use after a recording escapes; the uses are those of its declaration.
+    fn escapes<'u>(
+        &self,
+        state: &State,
+        recording: &Recording,
+        uses: impl DoubleEndedIterator<Item = &'u Use>,
+    ) -> bool {
+        let earlier = self.is(Change::EscapeByEarlierUse);
+        let mut outside = uses
+            .filter(|used| used.at > recording.at || earlier)
+            .map(|used| self.outside(state, recording, used));
+        if self.is(Change::AlwaysEscaped) {
+            return true;
+        }
+        if self.is(Change::EscapeByLastUse) {
+            return outside.next_back().unwrap_or(false);
+        }
+        outside.any(|outside| outside)
     }
 
     /// Whether a use lies outside the scopes of a recording.

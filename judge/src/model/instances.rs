@@ -12,8 +12,13 @@ impl Model<'_> {
         if self.is(Change::InstancesOmitted) {
             return;
         }
+        let omitted = if self.is(Change::InstancesOfInterposedOmitted) { 5 } else { 0 };
+        let named = state.journal.iter().filter(|&&(_, reason)| reason != omitted);
         let mut shared: HashSet<u32> =
-            state.journal.iter().map(|&(identifier, _)| self.declaration(identifier)).collect();
+            named.map(|&(identifier, _)| self.declaration(identifier)).collect();
+        if self.is(Change::InstancesOfCovered) {
+            shared.extend(&state.covered);
+        }
         if self.is(Change::InstancesOfEarlierRuns) {
             shared.extend(&self.named);
         }
@@ -94,6 +99,12 @@ impl Model<'_> {
         }
         if self.is(Change::ScopeListsReversed) {
             lists.reverse();
+        }
+        if self.is(Change::ScopeDependenciesFirst) {
+            lists.swap(0, 1);
+        }
+        if self.is(Change::ScopeReassignmentsSecond) {
+            lists.swap(1, 2);
         }
         for list in lists {
             visits.extend(list);
