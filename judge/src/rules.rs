@@ -70,6 +70,8 @@ pub enum Change {
     ConstantHandedToNamed(u8),
     ConstantHandedByProperty(u8),
     GlobalOmitted,
+    GlobalByLoads,
+    GlobalByOthers,
     GlobalIsConstant,
     GlobalNotHandedOn(u8),
     GlobalNotConstant(u8),
@@ -184,7 +186,7 @@ fn interposed(list: &mut Vec<Change>) {
         list.extend([TrackingAfterUses(kind), ConstantHandedByProperty(kind)]);
         list.extend([GlobalNotHandedOn(kind), GlobalNotConstant(kind), GlobalNotToNamed(kind)]);
     }
-    list.extend([GlobalOmitted, GlobalIsConstant]);
+    list.extend([GlobalOmitted, GlobalByLoads, GlobalByOthers, GlobalIsConstant]);
     list.extend([6, 7, 8, 9, 16, 17, 18, 19, 20].map(LeafActsUnder));
     list.extend([SequenceInert, NamedAtStart, TrackedByDeclaration, ConstantByDeclaration]);
     list.extend([UntrackedPromoted, ConstantPromoted]);

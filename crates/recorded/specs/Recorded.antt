@@ -1,4 +1,4 @@
--- 231 recorded functions: of each changed rule the first that it alters. Made by `judge/run definitions`. Assumes nothing.
+-- 233 recorded functions: of each changed rule the first that it alters. Made by `judge/run definitions`. Assumes nothing.
 use Rattle.std.specs.Prelude.{List, [], ◌∷◌}
 use Rattle.hir.specs.declared.tables.Reason.TheVariants as reasons
 use Rattle.reactive.specs.declared.code.Code.TheVariants as codes
@@ -1112,6 +1112,19 @@ functions =
     (numbered 1 codes.Scope 1 ∷ row 2 codes.Block ∷ numbered 3 codes.Scope 0 ∷ row 4 codes.Block ∷ numbered 5 codes.Pruned 2 ∷
     row 6 codes.Block ∷ identified 3 codes.Return 0 ∷ [])
     [] (0 ∷ []) ∷ []) ∷
+    -- line 2018: GlobalByOthers
+    recorded ((0, 0) ∷ (1, 0) ∷ []) [] [] (run []
+    (identified 1 codes.Instruction 1 ∷ leaf 2 kinds.CallExpression (1 ∷ []) [] ∷ identified 1 codes.Instruction 0 ∷
+    leaf 2 kinds.ComputedLoad (1 ∷ 1 ∷ []) (1 ∷ []) ∷ row 1 codes.Instruction ∷
+    mode_leaf 2 kinds.StoreLocal modes.HoistedLet (0 ∷ []) (0 ∷ []) ∷ row 1 codes.Instruction ∷
+    leaf 2 kinds.CallExpression (0 ∷ 1 ∷ []) [] ∷ [])
+    ((0, reasons.Interposed) ∷ (1, reasons.Interposed) ∷ []) (2 ∷ 2 ∷ []) ∷ []) ∷
+    -- line 2019: GlobalByLoads
+    recorded ((0, 0) ∷ (1, 0) ∷ []) [] [] (run []
+    (identified 1 codes.Instruction 0 ∷ leaf 2 kinds.LoadLocal (0 ∷ []) (0 ∷ []) ∷ identified 1 codes.Instruction 1 ∷
+    leaf 2 kinds.PropertyLoad (0 ∷ []) (0 ∷ []) ∷ row 1 codes.Instruction ∷ leaf 2 kinds.PostfixUpdate (1 ∷ []) [] ∷
+    row 1 codes.Instruction ∷ leaf 2 kinds.ComputedStore (0 ∷ 1 ∷ 1 ∷ []) [] ∷ [])
+    ((0, reasons.Interposed) ∷ (1, reasons.Interposed) ∷ []) (2 ∷ 2 ∷ []) ∷ []) ∷
     -- line 2122: GlobalNotHandedOn PropertyLoad
     recorded ((0, 0) ∷ (1, 0) ∷ []) [] [] (run []
     (identified 1 codes.Instruction 1 ∷ leaf 2 kinds.LoadGlobal [] [] ∷ identified 1 codes.Instruction 0 ∷

@@ -10,5 +10,5 @@ pub fn recorded_functions() -> u8
     ensures count { result ≡ length functions }
     ensures answers { map by_definitions functions ≡ map by_rust functions }
 {
-    231
+    233
 }

@@ -117,8 +117,20 @@ impl Model<'_> {
             28 => self.global_load(state, third, row, lvalue),
             _ => self.use_all(state, third, row),
         }
+        if self.makes_global(row.kind) {
+            third.globals.extend(lvalue);
+        }
         if !is_barrier_kind(row.kind) {
             self.added(state, third, row.kind, lvalue);
+        }
+    }
+
+    /// Whether a change lets a kind make its lvalue global that does not by the rules.
+    fn makes_global(&self, kind: u8) -> bool {
+        match kind {
+            0 | 1 => self.is(Change::GlobalByLoads),
+            23 | 26 | 28 => false,
+            _ => self.is(Change::GlobalByOthers),
         }
     }
 
