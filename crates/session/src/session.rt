@@ -1,7 +1,9 @@
 // What runs write besides the tables of their image: a journal and scratch, which last from run to run.
-ghost use Rattle.std.specs.Prelude.{◌≡◌};
+ghost use Rattle.std.specs.Prelude.{◌≡◌, IfOk};
 ghost use Rattle.hir.specs.Environments.{model};
 ghost use Rattle.hir.specs.Scratches.{noted};
+ghost use Rattle.image_source.specs.Sections.{section_rows};
+ghost use Rattle.session.specs.Runs.{environment, scratch, Begun, run_answer, count_after};
 
 use calls::run::run;
 use hir::environment::Environment;
@@ -37,7 +39,9 @@ fn most_rows(panels: &[Panel]) -> usize {
 
 impl Session {
     // An empty journal, and scratch for every tree of the tables.
-    pub fn new(heap: Global, tables: &Tables) -> Result<Session, AllocError> {
+    pub fn new(heap: Global, tables: &Tables) -> Result<Session, AllocError>
+        ensures { IfOk result (λ s. Begun tables.now s) }
+    {
         let identifiers = tables.identifiers.len();
         Ok(Session {
             journal: vec![in heap; JournalRow {
@@ -53,19 +57,8 @@ impl Session {
 
     // The environment of the tables with this journal, and the scratch, lent to a run.
     pub fn lend<'a>(&'a mut self, tables: &'a mut Tables) -> (Environment<'a>, Scratch<'a>)
-        ensures env { model result.0 ≡ record {
-          identifiers = tables.old.identifiers.items;
-          scopes = tables.old.scopes.items;
-          functions = tables.old.functions.items;
-          pool = tables.old.pool.items;
-          journal = self.old.journal.items;
-          count = self.old.count;
-        } }
-        ensures scratch { noted result.1 ≡ record {
-          work = self.old.work.items;
-          marks = self.old.marks.items;
-          trail = self.old.trail.items;
-        } }
+        ensures env { model result.0 ≡ environment self.old tables.old }
+        ensures scratch { noted result.1 ≡ scratch self.old }
     {
         let count = self.count;
         let mut env = Environment::new(
@@ -85,7 +78,10 @@ impl Session {
     }
 
     // Runs over a tree of the tables, straight from its bytes: the place of the first new journal row and their count.
-    pub fn run(&mut self, tables: &mut Tables, panel: Panel) -> Result<(usize, usize), Refusal> {
+    pub fn run(&mut self, tables: &mut Tables, panel: Panel) -> Result<(usize, usize), Refusal>
+        ensures answer { result ≡ run_answer (environment self.old tables.old) (scratch self.old) panel.entry.parameters (section_rows panel.entry.content.now) }
+        ensures count { self.new.count ≡ count_after (environment self.old tables.old) (scratch self.old) panel.entry.parameters (section_rows panel.entry.content.now) }
+    {
         let mut source = ImageSource::new(panel.content);
         let (mut env, mut scratch) = self.lend(tables);
         let answer = run(&mut env, &mut scratch, &mut source, panel.parameters);
