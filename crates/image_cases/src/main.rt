@@ -7,7 +7,9 @@ mod again;
 use again::is_encoded_alike;
 use hex::FromHexError;
 use image_check::check::check_image;
+use image_tables::fault::LoadFault;
 use report::fault::Fault;
+use report::faults::print_load_fault;
 use std::alloc::AllocError;
 use std::io;
 
@@ -21,12 +23,10 @@ fn check_line(rt: &HostRuntime, line: &str) -> Result<(), Fault> {
     match check_image(&image) {
         Ok(()) if is_encoded_alike(rt.alloc(), &image)? => println!(rt; "{name}: an image")?,
         Ok(()) => println!(rt; "{name}: an image, but encoded otherwise")?,
-        Err(fault) => println!(rt;
-            "{name}: fault {} at byte {}, layer {}",
-            fault.cause().number(),
-            fault.byte(),
-            fault.layer().number()
-        )?,
+        Err(fault) => {
+            print!(rt; "{name}: ")?;
+            print_load_fault(rt, LoadFault::from(fault))?;
+        }
     }
     Ok(())
 }
