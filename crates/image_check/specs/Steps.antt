@@ -30,6 +30,7 @@ abbrev pub lists_end : ℕ → Place → Result Place ByteFault
 lists_end zero p = Ok p
 lists_end (suc n) p = and_then (ended (numbers_at p)) (lists_end n)
 
+-- own parameters, and row 0 behind them
 abbrev pub tree_at : Place → Result ((List ℕ × Tree 128) × Place) RowFault
 tree_at = both (λ p. in_row (in_section (numbers_at p))) (row_at 128)
 

@@ -5,12 +5,9 @@ use Rattle.image.specs.declared.fault.ByteFault.{ByteFault}
 use Rattle.image.specs.declared.fault.RowFault.{RowFault}
 use Rattle.image.specs.Bytes.{Place}
 use Rattle.image.specs.Format.{Tree, Panel, tree}
-use Rattle.image.specs.Steps.{both, in_section, in_row, numbers_at, many_at, row_at}
+use Rattle.image.specs.Steps.{numbers_at, many_at, row_at}
+use Rattle.image_check.specs.Steps.{tree_at}
 use Rattle.image_source.specs.Trees.{all_rows, tree_rows}
-
--- own parameters, and row 0 behind them
-abbrev pub tree_at : Place → Result ((List ℕ × Tree 128) × Place) RowFault
-tree_at = both (λ p. in_row (in_section (numbers_at p))) (row_at 128)
 
 -- the rows of a tree, where nothing is behind it
 abbrev pub only_rows : Result ((List ℕ × Tree 128) × Place) RowFault → List Row
