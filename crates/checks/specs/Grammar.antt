@@ -6,6 +6,7 @@ use Rattle.checks.specs.declared.grammar.Sort.TheVariants as sorts
 use Rattle.checks.specs.declared.grammar.Slot.{Slot}
 use Rattle.checks.specs.declared.grammar.Slot.TheVariants.{One, Optional, Many}
 
+-- n is a, b or a number between them
 abbrev pub between : ℕ → ℕ → ℕ → Bool
 between a b n = nat_le a n && nat_le n b
 
@@ -36,9 +37,11 @@ repeats (One s) = false
 repeats (Optional s) = false
 repeats (Many s) = true
 
+-- the place of exactly one Block
 abbrev pub block : Slot
 block = One sorts.Block
 
+-- the place of exactly one value
 abbrev pub value : Slot
 value = One sorts.Value
 
@@ -72,6 +75,7 @@ child_table =
     (block ∷ []) ∷  -- 24 Handler
     []
 
+-- the places for children of a row with this code, in order; none, where the number is no code
 abbrev pub children : ℕ → List Slot
 children c = slice_index_or child_table c []
 

@@ -22,6 +22,7 @@ use Rattle.checks.specs.Tables.{tables_refusal}
 abbrev pub Sizes : Type 0
 Sizes = own.Sizes
 
+-- how many identifiers, scopes and functions an environment has
 abbrev pub sizes : Model → Sizes
 sizes m = record { identifiers = length m.identifiers; scopes = length m.scopes; functions = length m.functions }
 
@@ -38,6 +39,7 @@ abbrev pub wrong_depth : Open → ℕ → Bool
 wrong_depth [] d = nat_lt 0 d
 wrong_depth (o ∷ os) d = d == 0 || nat_lt (length (o ∷ os)) d
 
+-- the open rows once a child of this code is open in the innermost, which then has these places left; none, where the child has no place
 abbrev pub with_child : ℕ → Open → Option (List Slot) → Option Open
 with_child c os None = None
 with_child c os (Some rest) = Some (children c ∷ rest ∷ os)
@@ -56,6 +58,7 @@ unplaced (Some os) = None
 abbrev pub closing : Open → ℕ → Open
 closing os d = take (length os - d) os
 
+-- the rows that stay open where a row of depth d comes: the d outermost, and all where there are fewer
 abbrev pub staying : Open → ℕ → Open
 staying os d = drop (length os - d) os
 
@@ -71,6 +74,7 @@ needs_identifier c = between 12 14 c || c == 21
 abbrev pub may_have_identifier : ℕ → Bool
 may_have_identifier c = c == 2 || (c == 15 || c == 24)
 
+-- an identifier is absent where the code requires one, is there where the code has none, or is not below n
 abbrev pub wrong_identifier : ℕ → ℕ → Option IdentifierId → Bool
 wrong_identifier n c None = needs_identifier c
 wrong_identifier n c (Some i) = not (needs_identifier c || may_have_identifier c) || nat_le n i.0
@@ -79,6 +83,7 @@ wrong_identifier n c (Some i) = not (needs_identifier c || may_have_identifier c
 abbrev pub needs_function : ℕ → ℕ → Bool
 needs_function c kind = c == 5 && (kind == 17 || kind == 30)
 
+-- a scope or function is absent where the row needs one, is there where the row has none of this sort, or has no row in the tables
 abbrev pub wrong_number : Sizes → ℕ → ℕ → Option Number → Bool
 wrong_number z c kind None = has_scope c || needs_function c kind
 wrong_number z c kind (Some (numbers.Scope s)) = not (has_scope c) || nat_le z.scopes s.0
@@ -92,15 +97,18 @@ wrong_mode kind mode = cond (between 2 6 kind) (nat_lt 7 mode) (not (mode == 0))
 abbrev pub one_mark : ℕ → Bool
 one_mark kind = nat_le kind 5 || (kind == 12 || (kind == 23 || kind == 26))
 
+-- the kind cannot have so many marks: exactly one where `one_mark` says so, any number in kind 6, at most one in kind 15, none elsewhere
 abbrev pub wrong_marks : ℕ → ℕ → Bool
 wrong_marks kind count =
     cond (one_mark kind) (not (count == 1))
     (cond (kind == 6) false
     (cond (kind == 15) (nat_lt 1 count) (not (count == 0))))
 
+-- some identifier of the list is not below n
 abbrev pub absent_in : ℕ → List IdentifierId → Bool
 absent_in n is = list_any (λ i. leb n i.0) is
 
+-- in a Leaf the kind is above 41, the mode or the number of marks is wrong, or an operand or mark is not below n
 abbrev pub wrong_leaf : ℕ → Row → Bool
 wrong_leaf n r =
     nat_lt 41 r.kind || (wrong_mode r.kind r.mode || (wrong_marks r.kind (length r.marks)
@@ -110,6 +118,7 @@ wrong_leaf n r =
 abbrev pub leafless : RowHead → Bool
 leafless r = r.kind == 0 && (r.mode == 0 && (r.operands == 0 && r.marks == 0))
 
+-- a field of the row is wrong: its identifier, its number, a Leaf's own fields, or one of these that is not 0 or empty in another row
 abbrev pub wrong_fields : Sizes → Row → Bool
 wrong_fields z r =
     wrong_identifier z.identifiers r.code r.identifier

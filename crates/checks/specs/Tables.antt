@@ -16,9 +16,11 @@ use Rattle.hir.specs.Spans.{part}
 abbrev pub long_list : Span → Bool
 long_list s = nat_lt 4096 s.count
 
+-- a list of the scope has more than 4,096 numbers
 abbrev pub long_scope : Scope → Bool
 long_scope s = long_list s.dependencies || (long_list s.declarations || long_list s.reassignments)
 
+-- a list of the function has more than 4,096 numbers
 abbrev pub long_function : Function → Bool
 long_function f = long_list f.parameters || long_list f.nested
 
@@ -41,12 +43,15 @@ bad_row n i = nat_le n i.declaration.0 || nat_lt 3 i.tag
 abbrev pub bad_list : ℕ → List ℕ → Span → Bool
 bad_list n pool s = nat_lt (length pool) (s.start + s.count) || list_any (leb n) (part pool s)
 
+-- a list of the scope leaves the pool, or names an identifier not below n
 abbrev pub bad_scope : ℕ → List ℕ → Scope → Bool
 bad_scope n pool s = bad_list n pool s.dependencies || (bad_list n pool s.declarations || bad_list n pool s.reassignments)
 
+-- a list of the function leaves the pool, or names a parameter not below n or a nested function not below fs
 abbrev pub bad_function : ℕ → ℕ → List ℕ → Function → Bool
 bad_function n fs pool f = bad_list n pool f.parameters || bad_list fs pool f.nested
 
+-- a list of some scope or function, or the own parameters, leaves the pool or names an identifier or a function that has no row
 abbrev pub bad_lists : Model → Span → Bool
 bad_lists m ps =
     list_any (bad_scope (length m.identifiers) m.pool) m.scopes

@@ -3,6 +3,7 @@ use Rattle.std.specs.Prelude.{ℕ, Bool, cond, Some, None, Ok, Err, Option, Resu
 use Rattle.hir.specs.declared.refusal.Refusal.{Refusal}
 use Rattle.hir.specs.declared.refusal.Refusal.TheVariants as refusals
 
+-- the number that a refused call answers for this refusal
 abbrev pub refusal_number : Refusal → ℕ
 refusal_number refusals.Limit = 1
 refusal_number refusals.Row = 2

@@ -8,9 +8,11 @@ use Rattle.hir.specs.declared.span.Span.{Span}
 abbrev pub part : List ℕ → Span → List ℕ
 part pool s = take s.count (drop s.start pool)
 
+-- the identifier of this number, whether or not it has a row
 abbrev pub ident : ℕ → IdentifierId
 ident n = record { 0 = n }
 
+-- the function of this number, whether or not it has a row
 abbrev pub function : ℕ → FunctionId
 function n = record { 0 = n }
 

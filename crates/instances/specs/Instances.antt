@@ -30,6 +30,7 @@ pub data Act : Type 0 where
 abbrev pub promote_instance : Tables → IdentifierId → Tables
 promote_instance t i = promote_if (is_unnamed t.env i && (work_of t.notes (declaration_of t.env i.0)).promoted) reasons.SameDeclaration t i
 
+-- what an act leaves: of the identifiers that it visits, each is named as `promote_instance` says; of a scope first declarations, then dependencies, then reassignments
 abbrev pub does : Tables → Act → Tables
 does t (again i) = promote_instance t i
 does t (parameters f) = fold promote_instance t (identifiers_in t.env.pool (function_of t.env f.0).parameters)
@@ -44,10 +45,12 @@ does t (leaves s) =
 abbrev pub row_acts : ℕ → Option IdentifierId → Option Number → List IdentifierId → List Act
 row_acts c i n os = cond (c == code_number codes.Leaf) (map again os ++ map parameters (listed (function_in n))) (map again (listed i))
 
+-- the acts of a row that is entered, which visit what the row names itself; a row that is left has its scope's lists visited, if it has a scope
 abbrev pub acts : Event → List Act
 acts (entering p r) = row_acts r.code r.identifier r.number r.operands
 acts (leaving r) = map leaves (listed (scope_in r.number))
 
+-- the acts of all rows, in walk order
 abbrev pub pass_acts : List Row → List Act
 pass_acts rs = acts_of acts (events [] rs)
 
@@ -61,6 +64,7 @@ Fits m (leaves s) = KnownScope m s
 abbrev pub Ready : Tables → List Act → Type 0
 Ready = growth.Ready Fits
 
+-- the tables are such that the acts of an event can be done
 abbrev pub Readies : Whole PromoteAllInstances → Event → Type 0
 Readies w e = Ready w.tables (acts e)
 

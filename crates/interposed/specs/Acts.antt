@@ -21,12 +21,15 @@ pub data Act : Type 0 where
   barrier : Option IdentifierId → Act
   tracks : IdentifierId → Act
 
+-- the third pass, which keeps the epoch, with the tables that it writes
 abbrev pub State : Type 0
 State = Whole PromoteInterposed
 
+-- the epoch that the pass is in: it goes up by one at each barrier
 abbrev pub epoch : State → ℕ
 epoch w = w.visitor.epoch
 
+-- the work row of an identifier; one in which nothing is noted, where there is none
 abbrev pub work : State → IdentifierId → Work
 work w i = work_of w.tables.notes i.0
 
@@ -34,15 +37,19 @@ work w i = work_of w.tables.notes i.0
 abbrev pub noting : State → IdentifierId → Work → State
 noting w i x = whole w.visitor (both w.tables.env (with_work w.tables.notes i.0 x))
 
+-- the identifier has no name at this moment; one without a row has none either
 abbrev pub nameless : State → IdentifierId → Bool
 nameless w i = is_unnamed w.tables.env i
 
+-- an identifier that is constant if b holds, and else constant only if it was
 abbrev pub as_constant : Bool → Work → Work
 as_constant b x = record { tag = x.tag; promoted = x.promoted; recorded = x.recorded; escaped = x.escaped; constant = x.constant || b; global = x.global; tracked = x.tracked }
 
+-- an identifier that is global if b holds, and else global only if it was
 abbrev pub as_global : Bool → Work → Work
 as_global b x = record { tag = x.tag; promoted = x.promoted; recorded = x.recorded; escaped = x.escaped; constant = x.constant; global = x.global || b; tracked = x.tracked }
 
+-- an identifier that was last tracked in epoch e, whatever epoch was noted before
 abbrev pub as_tracked : ℕ → Work → Work
 as_tracked e x = record { tag = x.tag; promoted = x.promoted; recorded = x.recorded; escaped = x.escaped; constant = x.constant; global = x.global; tracked = Some e }
 
@@ -59,9 +66,11 @@ exposed e x = is_before e x.tracked
 abbrev pub found : State → IdentifierId → Bool
 found w i = nameless w i && (not (work w i).constant && exposed (epoch w) (work w i))
 
+-- a barrier is raised: a new epoch begins, and the tables stay
 abbrev pub raised : State → State
 raised w = whole (record { epoch = epoch w + 1 }) w.tables
 
+-- what an act does to the epoch and the tables, where names are those of this moment
 abbrev pub does : State → Act → State
 does w (uses i) = whole w.visitor (promote_if (found w i) reasons.Interposed w.tables i)
 does w (fixes i) = noting w i (as_constant true (work w i))
@@ -75,6 +84,7 @@ does w (barrier None) = raised w
 does w (barrier (Some l)) = cond (nameless w l) w (raised w)
 does w (tracks l) = cond (nameless w l) (noting w l (as_tracked (epoch w) (work w l))) w
 
+-- an identifier has a row, or is absent
 abbrev pub KnownIf : Model → Option IdentifierId → Type 0
 KnownIf m None = Unit {0}
 KnownIf m (Some i) = Known m i

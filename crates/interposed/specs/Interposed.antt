@@ -22,6 +22,7 @@ fix_acts k mode ms = cond (fixes_marks k mode) (map fixes ms) []
 abbrev pub mark_acts : ℕ → IdentifierId → IdentifierId → List Act
 mark_acts k l m = cond (is_load k) (loads l m ∷ []) (cond (is_property_load k) (takes l m ∷ []) [])
 
+-- what the first mark does to the lvalue, by the kind; nothing without marks, and no later mark acts
 abbrev pub marks_acts : ℕ → IdentifierId → List IdentifierId → List Act
 marks_acts k l [] = []
 marks_acts k l (m ∷ ms) = mark_acts k l m
@@ -49,9 +50,11 @@ abbrev pub under_acts : Option OpenRow → ℕ → ℕ → List IdentifierId →
 under_acts None k mode ms os = map uses os
 under_acts (Some p) k mode ms os = leaf_acts p.identifier k mode ms os
 
+-- the acts of a row that is entered, with its marks and operands: a Leaf acts under its parent, any other row uses its identifier if its code does
 abbrev pub row_acts : Option OpenRow → RowHead → List IdentifierId → List IdentifierId → List Act
 row_acts p r ms os = cond (r.code == code_number codes.Leaf) (under_acts (instruction_in p) r.kind r.mode ms os) (map uses (listed (used_in r.code r.identifier)))
 
+-- the acts of a row that is entered; a row that is left has none
 abbrev pub acts : Event → List Act
 acts (entering p r) = row_acts p (head r) r.marks r.operands
 acts (leaving r) = []
@@ -60,6 +63,7 @@ acts (leaving r) = []
 abbrev pub pass_acts : List IdentifierId → List Row → List Act
 pass_acts ps rs = map fixes ps ++ acts_of acts (events [] rs)
 
+-- the tables and the epoch are such that the acts of an event can be done
 abbrev pub Readies : State → Event → Type 0
 Readies w e = Ready w (acts e)
 
@@ -67,5 +71,6 @@ Readies w e = Ready w (acts e)
 abbrev pub begun : Tables → State
 begun t = whole (record { epoch = 1 }) t
 
+-- what the third pass leaves: the acts of own parameters and rows are done from the first epoch on
 abbrev pub promote_interposed : Tables → Span → List Row → Tables
 promote_interposed t ps rs = (fold does (begun t) (pass_acts (identifiers_in t.env.pool ps) rs)).tables

@@ -30,9 +30,11 @@ pub data Act : Type 0 where
 abbrev pub promote_escaped : Tables → IdentifierId → Tables
 promote_escaped t i = promote_if (is_unnamed t.env i && (work_of t.notes (declaration_of t.env i.0)).escaped) reasons.Escape t i
 
+-- the function is marked as visited in this run; one without a mark in scratch is not
 abbrev pub is_marked : Tables → FunctionId → Bool
 is_marked t f = slice_index_or t.notes.marks f.0 false
 
+-- the function's mark is set, and nothing else changes
 abbrev pub with_mark : Tables → FunctionId → Tables
 with_mark t f = both t.env (record { work = t.notes.work; marks = slice_set t.notes.marks f.0 true; trail = t.notes.trail })
 
@@ -40,6 +42,7 @@ with_mark t f = both t.env (record { work = t.notes.work; marks = slice_set t.no
 abbrev pub entered : Tables → FunctionId → Tables
 entered t f = fold (promote_unnamed reasons.InnerParameter) (with_mark t f) (identifiers_in t.env.pool (function_of t.env f.0).parameters)
 
+-- the functions that lie directly in a function
 abbrev pub nested_in : Tables → FunctionId → List FunctionId
 nested_in t f = functions_in t.env.pool (function_of t.env f.0).nested
 
@@ -48,6 +51,7 @@ abbrev pub visit : ℕ → Tables → FunctionId → Tables
 visit zero t f = t
 visit (suc k) t f = cond (is_marked t f) t (fold (visit k) (entered t f) (nested_in t f))
 
+-- how many of the marks are not set
 abbrev pub unmarked : List Bool → ℕ
 unmarked [] = 0
 unmarked (m ∷ ms) = cond m 0 1 + unmarked ms
@@ -56,6 +60,7 @@ unmarked (m ∷ ms) = cond m 0 1 + unmarked ms
 abbrev pub unvisited : Tables → ℕ
 unvisited t = unmarked (take (length t.env.functions) t.notes.marks)
 
+-- what an act leaves: a scope's dependencies and then declarations are named, a pruned scope's escaped declarations, or the parameters of a function and those nested in it
 abbrev pub does : Tables → Act → Tables
 does t (scope s) =
     fold (promote_unnamed reasons.Scope)
@@ -71,10 +76,12 @@ row_acts c (Some (numbers.Scope s)) =
     cond (c == code_number codes.Scope) (scope s ∷ []) (cond (c == code_number codes.Pruned) (pruned s ∷ []) [])
 row_acts c (Some (numbers.Function f)) = inner f ∷ []
 
+-- the act of a row that is entered; a row that is left has none
 abbrev pub acts : Event → List Act
 acts (entering p r) = row_acts r.code r.number
 acts (leaving r) = []
 
+-- the acts of all rows, in walk order
 abbrev pub pass_acts : List Row → List Act
 pass_acts rs = acts_of acts (events [] rs)
 
@@ -88,6 +95,7 @@ Fits m (inner f) = KnownFunction m f
 abbrev pub Ready : Tables → List Act → Type 0
 Ready = growth.Ready Fits
 
+-- the tables are such that the acts of an event can be done
 abbrev pub Readies : Whole PromoteTemporaries → Event → Type 0
 Readies w e = Ready w.tables (acts e)
 

@@ -4,6 +4,7 @@ use Rattle.hir.specs.declared.ids.IdentifierId.{IdentifierId}
 use Rattle.reactive.specs.declared.code.Code.{Code}
 use Rattle.reactive.specs.declared.code.Code.TheVariants as codes
 
+-- the byte that stands for a code in a row; 0 stands for none
 abbrev pub code_number : Code → ℕ
 code_number codes.Block = 1
 code_number codes.Instruction = 2
@@ -38,9 +39,11 @@ has_scope c = c == 3 || c == 4
 abbrev pub uses_identifier : ℕ → Bool
 uses_identifier c = (nat_le 12 c && nat_le c 15) || (c == 21 || c == 24)
 
+-- the identifier that a row of this code uses; none, where it is absent or the code uses none, as with an Instruction's lvalue
 abbrev pub used_in : ℕ → Option IdentifierId → Option IdentifierId
 used_in c i = cond (uses_identifier c) i None
 
+-- what is there as a list of one, and an empty list where nothing is
 abbrev pub listed : {A : Type 0} → Option A → List A
 listed None = []
 listed (Some x) = x ∷ []

@@ -6,6 +6,7 @@ use Rattle.reactive.specs.declared.given.RowList.TheVariants.{Operands, Marks}
 use Rattle.reactive.specs.declared.row.RowHead.{RowHead}
 use Rattle.reactive.specs.Rows.{Row, Reading, head, given, last_row}
 
+-- the operands of a row, or its marks
 abbrev pub list_of : RowList → Row → List IdentifierId
 list_of Operands r = r.operands
 list_of Marks r = r.marks

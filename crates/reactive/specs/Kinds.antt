@@ -5,6 +5,7 @@ use Rattle.reactive.specs.declared.kind.Kind.TheVariants as kinds
 use Rattle.reactive.specs.declared.mode.Mode.{Mode}
 use Rattle.reactive.specs.declared.mode.Mode.TheVariants as modes
 
+-- the byte that stands for a kind in a Leaf
 abbrev pub kind_number : Kind → ℕ
 kind_number kinds.LoadLocal = 0
 kind_number kinds.LoadContext = 1
@@ -49,6 +50,7 @@ kind_number kinds.Debugger = 39
 kind_number kinds.StartMemoize = 40
 kind_number kinds.FinishMemoize = 41
 
+-- the byte that stands for a mode in a Leaf
 abbrev pub mode_number : Mode → ℕ
 mode_number modes.Const = 0
 mode_number modes.Let = 1

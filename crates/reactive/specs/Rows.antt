@@ -41,6 +41,7 @@ pub record Reading : Type 0 where
   pub rows : List Row
   pub place : ℕ
 
+-- these rows, of which the first p were given
 abbrev pub at_place : List Row → ℕ → Reading
 at_place rs p = record { rows = rs; place = p }
 
@@ -70,9 +71,11 @@ abbrev pub pick : (Row → List IdentifierId) → Option Row → ℕ → Option 
 pick f None i = None
 pick f (Some r) i = slice_get (f r) i
 
+-- operand i of the row last given; none beyond its operands, and none before any row
 abbrev pub operand_at : Reading → ℕ → Option IdentifierId
 operand_at s i = pick (λ r. r.operands) (given s) i
 
+-- mark i of the row last given; none beyond its marks, and none before any row
 abbrev pub mark_at : Reading → ℕ → Option IdentifierId
 mark_at s i = pick (λ r. r.marks) (given s) i
 
@@ -80,6 +83,7 @@ mark_at s i = pick (λ r. r.marks) (given s) i
 abbrev pub left : Reading → List Row
 left s = drop s.place s.rows
 
+-- the row that is read where none was given: of code 0, which is that of no row, without identifier, number and lists
 abbrev pub no_row : Row
 no_row = record { depth = 0; code = 0; identifier = None; number = None; kind = 0; mode = 0; operands = []; marks = [] }
 

@@ -17,6 +17,7 @@ pub record OpenSound (m : Model) (h : OpenRow) : Type 0 where
   pub scope : (s : ScopeId) → scope_in h.number ≡ Some s → KnownScope m s
   pub function : (f : FunctionId) → function_in h.number ≡ Some f → KnownFunction m f
 
+-- whatever a row names, its operands and marks among it, has a row in the tables
 pub record RowSound (m : Model) (r : Row) : Type 0 where
   pub names : OpenSound m (open_row (head r))
   pub operands : Each (Known m) r.operands

@@ -20,11 +20,14 @@ table_row pool e = record {
   marks = identifiers_in pool e.marks;
 }
 
+-- the row of an entry without its lists: their lengths are as the pool's end cuts them
 abbrev pub table_head : List ℕ → RowEntry → RowHead
 table_head pool e = head (table_row pool e)
 
+-- the rows of a table, of which the first p were given
 abbrev pub table_reading : List RowEntry → List ℕ → ℕ → Reading
 table_reading es pool p = at_place (map (table_row pool) es) p
 
+-- what a table source stands for now: the rows of its table, and its position
 abbrev pub table_source : TableSource → Reading
 table_source s = table_reading s.rows.now s.pool.now s.position

@@ -11,6 +11,7 @@ pub record Whole (V : Type 0) : Type 0 where
   pub visitor : V
   pub tables : Tables
 
+-- a visitor and the tables that it writes, as one value
 abbrev pub whole : {V : Type 0} → V → Tables → Whole V
 whole v t = record { visitor = v; tables = t }
 
@@ -29,6 +30,7 @@ abbrev pub staying : ℕ → List OpenRow → List OpenRow
 staying d [] = []
 staying d (r ∷ around) = cond (nat_le d (length around)) (staying d around) (r ∷ around)
 
+-- the innermost of the open rows, which is the first; none, where no row is open
 abbrev pub innermost_of : List OpenRow → Option OpenRow
 innermost_of [] = None
 innermost_of (r ∷ around) = Some r
