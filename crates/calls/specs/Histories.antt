@@ -25,6 +25,7 @@ pub record World : Type 0 where
   pub trees : List Reading
   pub text : List ℕ
 
+-- the world of an environment, scratch, what the trees' sources stand for, and the text buffer
 abbrev pub world : Model → Notes → List Reading → List ℕ → World
 world m n ts b = record { env = m; notes = n; trees = ts; text = b }
 
@@ -35,6 +36,7 @@ pub record Moment : Type 0 where
   pub answer : RequestAnswer
   pub after : World
 
+-- the source of tree t; one without rows, where no tree has that number
 abbrev pub tree_at : World → ℕ → Reading
 tree_at w t = slice_index_or w.trees t (at_place [] 0)
 
@@ -44,15 +46,19 @@ told_as reply (Ok x) = Ok (reply x)
 told_as reply (Err r) = Err (Refused r)
 
 -- the answers of the four calls, as answers of requests
+-- the answer of a run: it holds the place of the first new journal row and their count where it is accepted
 abbrev pub ran_as : Result (ℕ × ℕ) Refusal → RequestAnswer
 ran_as = told_as (λ p. Ran p.0 p.1)
 
+-- the answer of a gift, as the answer of a request, which holds nothing more where it is accepted
 abbrev pub given_as : Result (Unit {0}) Refusal → RequestAnswer
 given_as = told_as (λ u. Given)
 
+-- the answer of a look, as the answer of a request, which holds the tag where it is accepted
 abbrev pub looked_as : Result ℕ Refusal → RequestAnswer
 looked_as = told_as Tag
 
+-- the answer of a spelling, as the answer of a request, which holds the length of the name where it is accepted
 abbrev pub spelled_as : Result ℕ Refusal → RequestAnswer
 spelled_as = told_as Length
 
@@ -64,18 +70,21 @@ pub record RunFollows (w : World) (t : ℕ) (ps : Span) (a : RequestAnswer) (v :
   pub trees : v.trees ≡ slice_set w.trees t (rewound (tree_at w t))
   pub text : v.text ≡ w.text
 
+-- a gift, accepted or refused: it alters nothing but the environment, and that as its step says
 pub record GiveFollows (w : World) (i : IdentifierId) (a : RequestAnswer) (v : World) : Type 0 where
   pub answer : Result (Unit {0}) Refusal
   pub told : a ≡ given_as answer
   pub step : GiveStep w.env i answer v.env
   pub rest : v ≡ world v.env w.notes w.trees w.text
 
+-- a look, accepted or refused: it answers as its step says, and alters nothing
 pub record LookFollows (w : World) (i : IdentifierId) (a : RequestAnswer) (v : World) : Type 0 where
   pub answer : Result ℕ Refusal
   pub told : a ≡ looked_as answer
   pub step : LookStep w.env i answer
   pub rest : v ≡ w
 
+-- a spelling, accepted or refused: it alters nothing but the text buffer, and that as its step says
 pub record SpellFollows (text : Text) (w : World) (i : IdentifierId) (a : RequestAnswer) (v : World) : Type 0 where
   pub answer : Result ℕ Refusal
   pub told : a ≡ spelled_as answer

@@ -47,6 +47,7 @@ pub record LookStep (m : Model) (i : IdentifierId) (answer : Result ℕ Refusal)
 abbrev pub Text : Type 0
 Text = Letter → ℕ → List ℕ
 
+-- the letter of a promoted name's tag: T for 3, and t for 2 as for any other number
 abbrev pub letter_of : ℕ → Letter
 letter_of tag = cond (tag == 3) Upper Lower
 

@@ -8,12 +8,14 @@ use Rattle.image.specs.declared.fault.Cause.TheVariants as causes
 use Rattle.image.specs.declared.fault.Layer.{Layer}
 use Rattle.image.specs.declared.fault.Layer.TheVariants as layers
 
+-- the number by which the cause of a fault is told
 abbrev pub cause_number : Cause → ℕ
 cause_number causes.Depth = 7
 cause_number causes.Version = 13
 cause_number causes.Bytes = 14
 cause_number causes.Section = 15
 
+-- the number of the layer that finds a fault, counted from the bytes up
 abbrev pub layer_number : Layer → ℕ
 layer_number layers.Bytes = 1
 layer_number layers.Sections = 2

@@ -11,6 +11,7 @@ use Rattle.image.specs.Layouts.{Layout, Begins, Whole, byte, word, numbers, ◌t
 abbrev pub Fields : Type 0
 Fields = ℕ × (ℕ × (ℕ × (ℕ × (ℕ × (List ℕ × List ℕ)))))
 
+-- the fields of a row lie one behind the other: code, kind and mode a byte each, identifier and number four, then two lists
 abbrev pub fields : Layout Fields
 fields = byte then word then word then byte then byte then numbers then numbers
 
@@ -48,6 +49,7 @@ identifiers = record { write = joined identifier.write; Fine = Each identifier.F
 abbrev pub Scope : Type 0
 Scope = List ℕ × (List ℕ × List ℕ)
 
+-- a scope: its three lists, one behind the other
 abbrev pub scope : Layout Scope
 scope = numbers then numbers then numbers
 
@@ -55,6 +57,7 @@ scope = numbers then numbers then numbers
 abbrev pub Function : Type 0
 Function = List ℕ × List ℕ
 
+-- a function: its two lists, one behind the other
 abbrev pub function : Layout Function
 function = numbers then numbers
 
@@ -62,6 +65,7 @@ function = numbers then numbers
 abbrev pub Panel : Type 0
 Panel = List ℕ × Tree 128
 
+-- the content of a T section: own parameters, and behind them row 0 with the rows within it
 abbrev pub tree : Layout Panel
 tree = numbers then row 128
 
@@ -86,12 +90,14 @@ letter_of (of_scope s) = 83
 letter_of (of_function f) = 70
 letter_of (of_tree t) = 84
 
+-- the bytes of what a section holds, without its length and its letter
 abbrev pub content_bytes : Content → List ℕ
 content_bytes (of_identifiers is) = identifiers.write is
 content_bytes (of_scope s) = scope.write s
 content_bytes (of_function f) = function.write f
 content_bytes (of_tree t) = tree.write t
 
+-- what a section holds can be written: each number, count and length has room in its bytes
 abbrev pub FineContent : Content → Type 0
 FineContent (of_identifiers is) = identifiers.Fine is
 FineContent (of_scope s) = scope.Fine s
@@ -136,6 +142,7 @@ lettered stage = record {
 abbrev pub section : ℕ → Layout Content
 section stage = part (lettered stage)
 
+-- the bytes of a section, which are the same wherever it stands: its length, its letter and its content
 abbrev pub section_bytes : Content → List ℕ
 section_bytes c = (section 0).write c
 

@@ -44,15 +44,19 @@ abbrev pub passed : {X E : Type 0} → Result X E → Result (Unit {0}) E
 passed (Ok x) = Ok tt
 passed (Err e) = Err e
 
+-- the fault of layer 1 at byte n
 abbrev pub missing : ℕ → ByteFault
 missing n = record { at = n }
 
+-- the byte at a place, and the place behind it; a fault at the place, where no byte is left
 abbrev pub u8_at : Place → Result (ℕ × Place) ByteFault
 u8_at p = cond (nat_lt (length p.1) 1) (Err (missing p.0)) (Ok (slice_index p.1 0, past 1 p))
 
+-- the number of four bytes at a place, and the place behind them; a fault at the place, where fewer are left
 abbrev pub u32_at : Place → Result (ℕ × Place) ByteFault
 u32_at p = cond (nat_lt (length p.1) 4) (Err (missing p.0)) (Ok (u32_of p.1, past 4 p))
 
+-- the list at a place, and the place behind it; a fault at the place, where its count or its numbers pass the holder
 abbrev pub numbers_at : Place → Result (List ℕ × Place) ByteFault
 numbers_at p = cond (nat_lt (length p.1) (4 + 4 * u32_of p.1)) (Err (missing p.0)) (Ok (words (take (4 * u32_of p.1) (drop 4 p.1)), past (4 + 4 * u32_of p.1) p))
 
@@ -64,6 +68,7 @@ part_at p = cond (nat_lt (length p.1) (4 + u32_of p.1)) (Err (missing p.0)) (Ok 
 abbrev pub both : {X Y E : Type 0} → (Place → Result (X × Place) E) → (Place → Result (Y × Place) E) → Place → Result ((X × Y) × Place) E
 both a b p = and_then (a p) (λ v. and_then (b v.1) (λ w. Ok ((v.0, w.0), w.1)))
 
+-- the fields of a row, and the place behind them; the fault of the first that passes its holder
 abbrev pub fields_at : Place → Result (Fields × Place) ByteFault
 fields_at = both u8_at (both u32_at (both u32_at (both u8_at (both u8_at (both numbers_at numbers_at)))))
 
@@ -71,6 +76,7 @@ fields_at = both u8_at (both u32_at (both u32_at (both u8_at (both u8_at (both n
 abbrev pub see_numbers : Numbers → List ℕ
 see_numbers n = map u32_of n.words.now
 
+-- the fields that were read of a row, its lists as numbers
 abbrev pub see_fields : RowFields → Fields
 see_fields f = (f.code, (f.identifier, (f.number, (f.kind, (f.mode, (see_numbers f.operands, see_numbers f.marks))))))
 
@@ -97,6 +103,7 @@ pub record Held : Type 0 where
   pub rank : ℕ
   pub bytes : List ℕ
 
+-- a section as the rank of its letter, and the bytes behind the letter
 abbrev pub held : Section → Held
 held (Identifiers r) = record { rank = 0; bytes = r.now }
 held (Scope r) = record { rank = 1; bytes = r.now }
@@ -109,9 +116,11 @@ pub record Opened : Type 0 where
   pub unread : Place
   pub behind : Place
 
+-- what an open section stands for
 abbrev pub see_open : Open → Opened
 see_open o = record { section = held o.section; unread = see o.unread; behind = see o.behind }
 
+-- what a reader stands for: the place where the next section begins
 abbrev pub see_reader : Reader → Place
 see_reader r = see r.left
 

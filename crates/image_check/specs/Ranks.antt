@@ -3,6 +3,7 @@ use Rattle.std.specs.Prelude.{ℕ, max, Some, None, Option}
 use Rattle.image_check.specs.declared.rank.Rank.{Rank}
 use Rattle.image_check.specs.declared.rank.Rank.TheVariants as ranks
 
+-- the number of a rank, which is its place in the order I, S, F, T
 abbrev pub rank_number : Rank → ℕ
 rank_number ranks.Identifiers = 0
 rank_number ranks.Scope = 1

@@ -12,16 +12,20 @@ use Rattle.image.specs.Steps.{Opened, and_then, in_section, in_row, ended, both,
 abbrev pub identifier_at : Place → Result ((ℕ × ℕ) × Place) ByteFault
 identifier_at = both u32_at u8_at
 
+-- the first n identifier rows of some bytes, five bytes each
 abbrev pub identifiers_of : ℕ → List ℕ → List (ℕ × ℕ)
 identifiers_of zero bs = []
 identifiers_of (suc n) bs = (u32_of bs, slice_index bs 4) ∷ identifiers_of n (drop 5 bs)
 
+-- all whole identifier rows to the holder's end, and the place behind them, where a part of one may be left; never a fault
 abbrev pub identifiers_at : Place → Result (List (ℕ × ℕ) × Place) RowFault
 identifiers_at p = Ok (identifiers_of (length p.1 / 5) p.1, past (length p.1 / 5 * 5) p)
 
+-- a scope's three lists, and the place behind them; the fault of the first that passes its holder
 abbrev pub scope_at : Place → Result ((List ℕ × (List ℕ × List ℕ)) × Place) ByteFault
 scope_at = both numbers_at (both numbers_at numbers_at)
 
+-- a function's two lists, and the place behind them; the fault of the first that passes its holder
 abbrev pub function_at : Place → Result ((List ℕ × List ℕ) × Place) ByteFault
 function_at = both numbers_at numbers_at
 
@@ -38,6 +42,7 @@ tree_at = both (λ p. in_row (in_section (numbers_at p))) (row_at 128)
 abbrev pub wrapped : {X : Type 0} → (X → Content) → Result (X × Place) RowFault → Result (Content × Place) RowFault
 wrapped c r = and_then r (λ v. Ok (c v.0, v.1))
 
+-- what a section holds by the rank of its letter, 3 and all above it for a tree, and the place behind it, where bytes may be left
 abbrev pub content_at : ℕ → Place → Result (Content × Place) RowFault
 content_at zero p = wrapped of_identifiers (identifiers_at p)
 content_at (suc zero) p = wrapped of_scope (in_row (in_section (scope_at p)))
@@ -66,6 +71,7 @@ staged (Err e) = Err e
 abbrev pub goes_on : ℕ → Place → Bool
 goes_on stage p = stage == 0 || not (length p.1 == 0)
 
+-- the contents of the sections from a place to the image's end, at most n of them, where `stage` says what may stand next; or their first fault
 abbrev pub sections_by : ℕ → ℕ → Place → Result (List Content) RowFault
 sections_by zero stage p = Ok []
 sections_by (suc n) stage p = cond (goes_on stage p) (and_then (one_at stage p) (λ v. and_then (sections_by n (after v.0) v.1) (λ cs. Ok (v.0 ∷ cs)))) (Ok [])

@@ -8,13 +8,16 @@ use Rattle.reactive.specs.Rows.{Row}
 use Rattle.image.specs.Format.{Fields}
 use Rattle.image_source.specs.Trees.{absent}
 
+-- the number of an identifier
 abbrev pub plain : IdentifierId → ℕ
 plain i = i.0
 
+-- the number that an image has for the identifier of a row: all ones, where it is absent
 abbrev pub identifier_word : Option IdentifierId → ℕ
 identifier_word None = absent
 identifier_word (Some i) = i.0
 
+-- the number that an image has for the scope or the function of a row: all ones, where both are absent
 abbrev pub number_word : Option Number → ℕ
 number_word None = absent
 number_word (Some (numbers.Scope s)) = s.0
@@ -24,10 +27,12 @@ number_word (Some (numbers.Function f)) = f.0
 abbrev pub fields_of : Row → Fields
 fields_of r = (r.code, (identifier_word r.identifier, (number_word r.number, (r.kind, (r.mode, (map plain r.operands, map plain r.marks))))))
 
+-- the identifier is absent, or its number is not the one that stands for an absent one
 abbrev pub identifier_fits : Option IdentifierId → Bool
 identifier_fits None = true
 identifier_fits (Some i) = not (i.0 == absent)
 
+-- the number is absent, or of the sort that a row of this code has in an image, and not the one that stands for an absent one
 abbrev pub number_fits : ℕ → Option Number → Bool
 number_fits code None = true
 number_fits code (Some (numbers.Scope s)) = has_scope code && not (s.0 == absent)

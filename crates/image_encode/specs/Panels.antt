@@ -13,9 +13,11 @@ use Rattle.image_encode.specs.Puts.{Put, PutAll}
 abbrev pub Lent : Type 0
 Lent = Span × Reading
 
+-- the span of a panel's own parameters, and what its source stands for
 abbrev pub lent : {S : Type 0} → (S → Reading) → Panel S → Lent
 lent reading p = (p.parameters, reading p.tree)
 
+-- the same parameters, and the source rewound
 abbrev pub lent_rewound : Lent → Lent
 lent_rewound l = (l.0, rewound l.1)
 

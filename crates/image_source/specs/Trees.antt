@@ -12,6 +12,7 @@ use Rattle.image.specs.Format.{Fields, Tree}
 abbrev pub absent : ℕ
 absent = 4294967295
 
+-- the identifier that a number of an image stands for; none for all ones
 abbrev pub identifier_of : ℕ → Option IdentifierId
 identifier_of n = cond (n == absent) None (Some (ident n))
 
@@ -19,6 +20,7 @@ identifier_of n = cond (n == absent) None (Some (ident n))
 abbrev pub number_kind : ℕ → ℕ → Number
 number_kind code n = cond (has_scope code) (numbers.Scope (record { 0 = n })) (numbers.Function (function n))
 
+-- the scope or the function that a number of an image stands for in a row of this code; none for all ones
 abbrev pub number_of : ℕ → ℕ → Option Number
 number_of code n = cond (n == absent) None (Some (number_kind code n))
 

@@ -73,6 +73,7 @@ pub record AddedPanel (before bs : List ℕ) (p : Panel) (after : List ℕ) : Ty
 
 -- what the sections of an image hold, section by section in their order
 
+-- the identifier rows that the I sections hold
 abbrev pub identifiers_in : List Content → List (ℕ × ℕ)
 identifiers_in [] = []
 identifiers_in (of_identifiers is ∷ cs) = is ++ identifiers_in cs
@@ -80,6 +81,7 @@ identifiers_in (of_scope s ∷ cs) = identifiers_in cs
 identifiers_in (of_function f ∷ cs) = identifiers_in cs
 identifiers_in (of_tree t ∷ cs) = identifiers_in cs
 
+-- the scopes that the S sections hold, by their lists
 abbrev pub scopes_in : List Content → List format.Scope
 scopes_in [] = []
 scopes_in (of_identifiers is ∷ cs) = scopes_in cs
@@ -87,6 +89,7 @@ scopes_in (of_scope s ∷ cs) = s ∷ scopes_in cs
 scopes_in (of_function f ∷ cs) = scopes_in cs
 scopes_in (of_tree t ∷ cs) = scopes_in cs
 
+-- the functions that the F sections hold, by their lists
 abbrev pub functions_in : List Content → List format.Function
 functions_in [] = []
 functions_in (of_identifiers is ∷ cs) = functions_in cs
@@ -94,6 +97,7 @@ functions_in (of_scope s ∷ cs) = functions_in cs
 functions_in (of_function f ∷ cs) = f ∷ functions_in cs
 functions_in (of_tree t ∷ cs) = functions_in cs
 
+-- of each T section the own parameters, and the bytes behind its letter
 abbrev pub panels_in : List Content → List (List ℕ × List ℕ)
 panels_in [] = []
 panels_in (of_identifiers is ∷ cs) = panels_in cs
@@ -126,6 +130,7 @@ ReadsBy (suc zero) bs = is_ok (scope_at (0, bs)) ≡ true
 ReadsBy (suc (suc zero)) bs = is_ok (function_at (0, bs)) ≡ true
 ReadsBy (suc (suc (suc r))) bs = is_ok (numbers_at (0, bs)) ≡ true
 
+-- the lists that tables take from a section can be read: those of a scope or a function, the own parameters of a tree, none of identifiers
 abbrev pub SectionReads : Held → Type 0
 SectionReads h = ReadsBy h.rank h.bytes
 

@@ -60,7 +60,7 @@ unmarked (m ∷ ms) = cond m 0 1 + unmarked ms
 abbrev pub unvisited : Tables → ℕ
 unvisited t = unmarked (take (length t.env.functions) t.notes.marks)
 
--- what an act leaves: a scope's dependencies and then declarations are named, a pruned scope's escaped declarations, or the parameters of a function and those nested in it
+-- what an act leaves: named is what has no name of a scope's dependencies and then its declarations, of a pruned scope's escaped declarations, or of the parameters of a function and those nested in it, unless it was visited
 abbrev pub does : Tables → Act → Tables
 does t (scope s) =
     fold (promote_unnamed reasons.Scope)

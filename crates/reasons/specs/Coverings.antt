@@ -27,6 +27,7 @@ pub record Covered : Type 0 where
   pub visited : ℕ → Bool
   pub rows : List JournalRow
 
+-- these coverings come behind those so far, and no function more is visited
 abbrev pub with_rows : Covered → List JournalRow → Covered
 with_rows s more = record { visited = s.visited; rows = s.rows ++ more }
 
@@ -77,6 +78,7 @@ visits_of m (instances.leaves s) =
     identifiers_in m.pool (scope_of m s.0).declarations
     ++ (identifiers_in m.pool (scope_of m s.0).dependencies ++ identifiers_in m.pool (scope_of m s.0).reassignments)
 
+-- the identifiers that the last pass visits in these acts, in order, each as often as it is visited
 abbrev pub visits : Model → List instances.Act → List IdentifierId
 visits m [] = []
 visits m (a ∷ more) = visits_of m a ++ visits m more

@@ -18,6 +18,7 @@ pub record Known : Type 0 where
   pub active : List ScopeId
   pub seen : ℕ → Seen
 
+-- before the first row: no scope is active, and no declaration was recorded
 abbrev pub nothing : Known
 nothing = record { active = []; seen = λ d. never }
 
@@ -30,20 +31,25 @@ abbrev pub outside : List ScopeId → List ScopeId → Bool
 outside [] at = false
 outside (s ∷ ss) at = not (among s at)
 
+-- what is known of a declaration after a use under these active scopes: it escaped if it had before, or if the use is outside those of its last recording; without a recording nothing is known
 abbrev pub used : List ScopeId → Seen → Seen
 used active never = never
 used active (since at b) = since at (b || outside active at)
 
+-- the active scopes once the innermost is left; none, where none was active
 abbrev pub rest : List ScopeId → List ScopeId
 rest [] = []
 rest (s ∷ ss) = ss
 
+-- what is known changes for declaration x alone
 abbrev pub at_declaration : ℕ → (Seen → Seen) → (ℕ → Seen) → ℕ → Seen
 at_declaration x f seen d = cond (d == x) (f (seen d)) (seen d)
 
+-- an identifier's declaration is recorded under the active scopes, which takes an earlier escape of it back
 abbrev pub recorded : Model → Known → IdentifierId → Known
 recorded m s i = record { active = s.active; seen = at_declaration (declaration_of m i.0) (λ _. since s.active false) s.seen }
 
+-- what is known after an act of the first pass; that an identifier is a JSX tag changes nothing
 abbrev pub act : Model → Known → Act → Known
 act m s (opens x) = record { active = x ∷ s.active; seen = s.seen }
 act m s shuts = record { active = rest s.active; seen = s.seen }
@@ -51,6 +57,7 @@ act m s (prunes x) = fold (recorded m) s (identifiers_in m.pool (scope_of m x.0)
 act m s (sees i) = record { active = s.active; seen = at_declaration (declaration_of m i.0) (used s.active) s.seen }
 act m s (flags i) = s
 
+-- the declaration escaped after its last recording; one that was never recorded did not
 abbrev pub has_escaped : Seen → Bool
 has_escaped never = false
 has_escaped (since at b) = b

@@ -13,24 +13,31 @@ pub record Known : Type 0 where
   pub exposed : ℕ → Bool
   pub found : List IdentifierId
 
+-- the identifiers of p, and x
 abbrev pub plus : (ℕ → Bool) → ℕ → ℕ → Bool
 plus p x i = i == x || p i
 
+-- the identifiers of p, but not x
 abbrev pub minus : (ℕ → Bool) → ℕ → ℕ → Bool
 minus p x i = not (i == x) && p i
 
+-- x is found by a use: it has a name from then on, and is the last found so far
 abbrev pub finds : IdentifierId → Known → Known
 finds x s = record { named = plus s.named x.0; constant = s.constant; global = s.global; tracked = s.tracked; exposed = s.exposed; found = s.found ++ x ∷ [] }
 
+-- x is constant from then on
 abbrev pub fixing : ℕ → Known → Known
 fixing x s = record { named = s.named; constant = plus s.constant x; global = s.global; tracked = s.tracked; exposed = s.exposed; found = s.found }
 
+-- x is global from then on
 abbrev pub globally : ℕ → Known → Known
 globally x s = record { named = s.named; constant = s.constant; global = plus s.global x; tracked = s.tracked; exposed = s.exposed; found = s.found }
 
+-- x is tracked, and no longer exposed by the barriers before
 abbrev pub tracking : ℕ → Known → Known
 tracking x s = record { named = s.named; constant = s.constant; global = s.global; tracked = plus s.tracked x; exposed = minus s.exposed x; found = s.found }
 
+-- a barrier: every identifier that was tracked before is exposed
 abbrev pub raising : Known → Known
 raising s = record { named = s.named; constant = s.constant; global = s.global; tracked = s.tracked; exposed = s.tracked; found = s.found }
 
@@ -38,6 +45,7 @@ raising s = record { named = s.named; constant = s.constant; global = s.global; 
 abbrev pub if : Bool → (Known → Known) → Known → Known
 if b f s = cond b (f s) s
 
+-- what is known after an act of the third pass, where names are those of this moment
 abbrev pub act : Known → Act → Known
 act s (uses x) = if (not (s.named x.0) && (not (s.constant x.0) && s.exposed x.0)) (finds x) s
 act s (fixes x) = fixing x.0 s

@@ -8,6 +8,7 @@ use Rattle.std.specs.List.{fold, list_any}
 abbrev pub names : ℕ → List JournalRow → Bool
 names i rows = list_any (λ r. nat_eq i r.identifier.0) rows
 
+-- the identifier has a name; one without a row has none
 abbrev pub is_named : Model → ℕ → Bool
 is_named m i = not (tag_of m i == 0)
 
@@ -24,5 +25,6 @@ declares m rows d = list_any (λ r. nat_eq (declaration_of m r.identifier.0) d) 
 abbrev pub name_one : (ℕ → Bool) → Model → JournalRow → Model
 name_one upper m r = journaled (tagged m r.identifier.0 (cond (upper (declaration_of m r.identifier.0)) 3 2)) r
 
+-- the identifiers of the rows are named in their order, with a journal row each
 abbrev pub name_all : (ℕ → Bool) → Model → List JournalRow → Model
 name_all upper m rows = fold (name_one upper) m rows

@@ -43,9 +43,11 @@ module _ (m : Model) (acts : List collect.Act) (d : ℕ) where
   abbrev pub active_at : ℕ → List ScopeId
   active_at k = fold active_by [] (take k acts)
 
+  -- act k records the declaration; where there is no act k, nothing is recorded
   abbrev pub RecordedAt : ℕ → Type 0
   RecordedAt k = records m d (slice_index_or acts k collect.shuts) ≡ true
 
+  -- act k uses an identifier of the declaration; where there is no act k, nothing is used
   abbrev pub UsedAt : ℕ → Type 0
   UsedAt k = uses_one m d (slice_index_or acts k collect.shuts) ≡ true
 
@@ -83,6 +85,7 @@ raises_it s (third.barrier None) = true
 raises_it s (third.barrier (Some l)) = s.named l.0
 raises_it s (third.tracks l) = false
 
+-- the act is a use of identifier x; what a load or a barrier says of its lvalue and its mark is none
 abbrev pub uses_it : ℕ → third.Act → Bool
 uses_it x (third.uses y) = x == y.0
 uses_it x (third.fixes y) = false
@@ -97,12 +100,15 @@ module _ (named : ℕ → Bool) (acts : List third.Act) where
   abbrev pub known_at : ℕ → interposed.Known
   known_at k = fold interposed.act (interposed.nothing named) (take k acts)
 
+  -- act k; where there is none, an act that neither uses nor tracks an identifier and is no barrier
   abbrev pub act_at : ℕ → third.Act
   act_at k = slice_index_or acts k (third.fixes (ident 0))
 
+  -- act k tracks x, by what is known where it comes
   abbrev pub TrackedAt : ℕ → ℕ → Type 0
   TrackedAt x k = tracks_it (known_at k) x (act_at k) ≡ true
 
+  -- act k is a barrier, by what is known where it comes
   abbrev pub BarrierAt : ℕ → Type 0
   BarrierAt k = raises_it (known_at k) (act_at k) ≡ true
 
@@ -119,6 +125,7 @@ module _ (named : ℕ → Bool) (acts : List third.Act) where
     pub after : at < wall
     pub since : wall < k
 
+  -- some act finds x
   pub record Found (x : ℕ) : Type 0 where
     pub place : ℕ
     pub found : FoundAt x place
@@ -130,5 +137,6 @@ pub record SentencesHold (m : Model) (ps : Span) (rs : List Row) : Type 0 where
   pub between : (x : ℕ) → list_any (λ (i : IdentifierId). nat_eq x i.0) (interposed.interposed (named_then m ps rs) (pass.pass_acts (identifiers_in m.pool ps) rs)) ≡ true → Found (named_then m ps rs) (pass.pass_acts (identifiers_in m.pool ps) rs) x
   pub by_between : (x : ℕ) → Found (named_then m ps rs) (pass.pass_acts (identifiers_in m.pool ps) rs) x → list_any (λ (i : IdentifierId). nat_eq x i.0) (interposed.interposed (named_then m ps rs) (pass.pass_acts (identifiers_in m.pool ps) rs)) ≡ true
 
+-- the definitions say what the sentences say, for every environment, parameter list and list of rows
 abbrev pub EverySentence : Type 0
 EverySentence = (m : Model) (ps : Span) (rs : List Row) → SentencesHold m ps rs

@@ -21,6 +21,7 @@ declared d = record { declaration = record { 0 = d }; tag = 0 }
 abbrev pub five : List Identifier
 five = declared 0 ∷ declared 1 ∷ declared 2 ∷ declared 3 ∷ declared 4 ∷ []
 
+-- a list of n numbers from place s of the pool on
 abbrev pub span : ℕ → ℕ → Span
 span s n = record { start = s; count = n }
 
@@ -39,12 +40,15 @@ environment is = record {
 abbrev pub parameter : Span
 parameter = span 4 1
 
+-- a row of depth d and code c that is no Leaf, with its identifier and its number
 abbrev pub row : ℕ → ℕ → Option IdentifierId → Option Number → Row
 row d c i n = record { depth = d; code = c; identifier = i; number = n; kind = 0; mode = 0; operands = []; marks = [] }
 
+-- a Leaf of kind k and mode 0 at depth d, with its number, its operands and its marks
 abbrev pub leaf : ℕ → ℕ → Option Number → List IdentifierId → List IdentifierId → Row
 leaf d k n os ms = record { depth = d; code = 5; identifier = None; number = n; kind = k; mode = 0; operands = os; marks = ms }
 
+-- a tree: a Block as row 0, and these rows within it
 abbrev pub block : List Row → List Row
 block rs = row 0 1 None None ∷ rs
 
@@ -56,9 +60,11 @@ load a b = row 1 2 (Some (ident a)) None ∷ leaf 2 0 None (ident b ∷ []) (ide
 abbrev pub call : List Row
 call = row 1 2 None None ∷ leaf 2 11 None [] [] ∷ []
 
+-- a Return at depth d that uses identifier i
 abbrev pub return : ℕ → ℕ → List Row
 return d i = row d 12 (Some (ident i)) None ∷ []
 
+-- at depth 1 a Scope or Pruned row, by its code, of scope s, and in its Block these rows
 abbrev pub within : ℕ → ℕ → List Row → List Row
 within code s rs = row 1 code None (Some (numbers.Scope (record { 0 = s }))) ∷ row 2 1 None None ∷ rs
 
@@ -66,6 +72,7 @@ within code s rs = row 1 code None (Some (numbers.Scope (record { 0 = s }))) ∷
 abbrev pub function : List Row
 function = row 1 2 None None ∷ leaf 2 30 (Some (numbers.Function (record { 0 = 0 }))) [] [] ∷ []
 
+-- journal rows, each as the number of its identifier and its reason
 abbrev pub entries : List JournalRow → List (ℕ × Reason)
 entries [] = []
 entries (r ∷ rows) = (r.identifier.0, r.reason) ∷ entries rows
@@ -78,6 +85,7 @@ Journals is ps rs js = entries (journal (environment is) ps (block rs)) ≡ js
 abbrev pub shared : List Identifier
 shared = declared 0 ∷ declared 1 ∷ declared 1 ∷ declared 3 ∷ declared 4 ∷ []
 
+-- the journals of twelve small functions are these
 pub record SmallFunctions : Type 0 where
   pub empty : Journals five no_span [] []
   pub own_parameter : Journals five parameter [] ((0, reasons.OwnParameter) ∷ [])

@@ -22,6 +22,7 @@ environment s t = record {
   count = s.count;
 }
 
+-- the scratch that a session lends to its next run, with what earlier runs noted
 abbrev pub scratch : Session → Notes
 scratch s = record { work = s.work.items; marks = s.marks.items; trail = s.trail.items }
 
