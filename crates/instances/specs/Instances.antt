@@ -30,7 +30,7 @@ pub data Act : Type 0 where
 abbrev pub promote_instance : Tables → IdentifierId → Tables
 promote_instance t i = promote_if (is_unnamed t.env i && (work_of t.notes (declaration_of t.env i.0)).promoted) reasons.SameDeclaration t i
 
--- what an act leaves: of the identifiers that it visits, each is named as `promote_instance` says; of a scope first declarations, then dependencies, then reassignments
+-- what an act leaves: what it visits is named as `promote_instance` says; of a scope first declarations, then dependencies, then reassignments
 abbrev pub does : Tables → Act → Tables
 does t (again i) = promote_instance t i
 does t (parameters f) = fold promote_instance t (identifiers_in t.env.pool (function_of t.env f.0).parameters)

@@ -50,7 +50,7 @@ abbrev pub under_acts : Option OpenRow → ℕ → ℕ → List IdentifierId →
 under_acts None k mode ms os = map uses os
 under_acts (Some p) k mode ms os = leaf_acts p.identifier k mode ms os
 
--- the acts of a row that is entered, with its marks and operands: a Leaf acts under its parent, any other row uses its identifier if its code does
+-- the acts of a row that is entered within this parent: those of a Leaf, and of another row the use of its identifier, if its code uses it
 abbrev pub row_acts : Option OpenRow → RowHead → List IdentifierId → List IdentifierId → List Act
 row_acts p r ms os = cond (r.code == code_number codes.Leaf) (under_acts (instruction_in p) r.kind r.mode ms os) (map uses (listed (used_in r.code r.identifier)))
 

@@ -34,7 +34,7 @@ promote_escaped t i = promote_if (is_unnamed t.env i && (work_of t.notes (declar
 abbrev pub is_marked : Tables → FunctionId → Bool
 is_marked t f = slice_index_or t.notes.marks f.0 false
 
--- the function's mark is set, and nothing else changes
+-- the function is marked as visited; where scratch has no mark for it, nothing changes
 abbrev pub with_mark : Tables → FunctionId → Tables
 with_mark t f = both t.env (record { work = t.notes.work; marks = slice_set t.notes.marks f.0 true; trail = t.notes.trail })
 
@@ -60,7 +60,7 @@ unmarked (m ∷ ms) = cond m 0 1 + unmarked ms
 abbrev pub unvisited : Tables → ℕ
 unvisited t = unmarked (take (length t.env.functions) t.notes.marks)
 
--- what an act leaves: named is what has no name of a scope's dependencies and then its declarations, of a pruned scope's escaped declarations, or of the parameters of a function and those nested in it, unless it was visited
+-- what an act leaves: a scope names its dependencies and then its declarations, a pruned scope its escaped declarations, a function what a visit names
 abbrev pub does : Tables → Act → Tables
 does t (scope s) =
     fold (promote_unnamed reasons.Scope)

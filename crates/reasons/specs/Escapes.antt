@@ -31,7 +31,7 @@ abbrev pub outside : List ScopeId → List ScopeId → Bool
 outside [] at = false
 outside (s ∷ ss) at = not (among s at)
 
--- what is known of a declaration after a use under these active scopes: it escaped if it had before, or if the use is outside those of its last recording; without a recording nothing is known
+-- what is known of a declaration once it is used under these active scopes; an escape stays, and one never recorded does not escape
 abbrev pub used : List ScopeId → Seen → Seen
 used active never = never
 used active (since at b) = since at (b || outside active at)
