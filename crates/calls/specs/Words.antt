@@ -14,7 +14,7 @@ use Rattle.calls.specs.declared.requests.Reply.TheVariants.{Ran, Given}
 use Rattle.calls.specs.Steps.{Text, give_refusal, look_refusal, spell_refusal, SpellStep}
 use Rattle.calls.specs.Histories.{World, world, Moment, tree_at, Somewhere}
 
--- the identifier has a name in this world, an author's or a promoted one; one without a row has none
+-- the identifier has a name in this world, which any tag but 0 says; one without a row has none
 abbrev pub is_named : World → ℕ → Bool
 is_named w i = not (tag_of w.env i == 0)
 

@@ -75,7 +75,7 @@ child_table =
     (block ∷ []) ∷  -- 24 Handler
     []
 
--- the places for children of a row with this code, in order; none, where the number is no code
+-- the places for children of a row with this code, in order; none for a code without children, nor for a number that is no code
 abbrev pub children : ℕ → List Slot
 children c = slice_index_or child_table c []
 

@@ -45,7 +45,7 @@ does t (leaves s) =
 abbrev pub row_acts : ℕ → Option IdentifierId → Option Number → List IdentifierId → List Act
 row_acts c i n os = cond (c == code_number codes.Leaf) (map again os ++ map parameters (listed (function_in n))) (map again (listed i))
 
--- the acts of a row that is entered, which visit what the row names itself; a row that is left has its scope's lists visited, if it has a scope
+-- the acts of a row that is entered, or left: then its scope's lists are visited, if it has a scope
 abbrev pub acts : Event → List Act
 acts (entering p r) = row_acts r.code r.identifier r.number r.operands
 acts (leaving r) = map leaves (listed (scope_in r.number))

@@ -8,7 +8,7 @@ use Rattle.std.specs.List.{fold, list_any}
 abbrev pub names : ℕ → List JournalRow → Bool
 names i rows = list_any (λ r. nat_eq i r.identifier.0) rows
 
--- the identifier has a name; one without a row has none
+-- the identifier has a name, which any tag but 0 says; one without a row has none
 abbrev pub is_named : Model → ℕ → Bool
 is_named m i = not (tag_of m i == 0)
 
