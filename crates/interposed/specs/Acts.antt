@@ -84,7 +84,7 @@ does w (barrier None) = raised w
 does w (barrier (Some l)) = cond (nameless w l) w (raised w)
 does w (tracks l) = cond (nameless w l) (noting w l (as_tracked (epoch w) (work w l))) w
 
--- an identifier has a row, if there is one at all
+-- where there is an identifier, it has a row
 abbrev pub KnownIf : Model → Option IdentifierId → Type 0
 KnownIf m None = Unit {0}
 KnownIf m (Some i) = Known m i

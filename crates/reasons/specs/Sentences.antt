@@ -85,7 +85,7 @@ raises_it s (third.barrier None) = true
 raises_it s (third.barrier (Some l)) = s.named l.0
 raises_it s (third.tracks l) = false
 
--- the act is a use of identifier x; what a load or a barrier says of its lvalue and its mark is none
+-- the act is a use of identifier x; an lvalue and a mark are no uses
 abbrev pub uses_it : ℕ → third.Act → Bool
 uses_it x (third.uses y) = x == y.0
 uses_it x (third.fixes y) = false
@@ -125,7 +125,7 @@ module _ (named : ℕ → Bool) (acts : List third.Act) where
     pub after : at < wall
     pub since : wall < k
 
-  -- some act finds x
+  -- some act uses x as `FoundAt` says
   pub record Found (x : ℕ) : Type 0 where
     pub place : ℕ
     pub found : FoundAt x place
