@@ -17,10 +17,11 @@ use Rattle.calls.specs.declared.requests.Request.{Request}
 use Rattle.calls.specs.declared.requests.Request.TheVariants.{Run, Give, Look, Spell}
 use Rattle.calls.specs.declared.requests.Reply.TheVariants.{Ran, Given}
 use Rattle.reasons.specs.Coverings as reasons
+use Rattle.reasons.specs.Laws.{Once}
 use Rattle.reasons.specs.Journals.{names}
 use Rattle.hir.specs.Scratches.{Notes}
 use Rattle.reactive.specs.Rows.{Row}
-use Rattle.calls.specs.Steps.{Text, absent, give_refusal, GiveStep, Distinct, Names, RunAccepted, RunRefused, RunStep}
+use Rattle.calls.specs.Steps.{Text, absent, give_refusal, GiveStep, Names, RunAccepted, RunRefused, RunStep}
 use Rattle.calls.specs.Histories.{World, Moment, tree_at, ran_as, given_as, RunFollows, GiveFollows, TreeFollows, there, nowhere, Follows}
 use Rattle.calls.specs.Words.{Gives, added, Journals}
 use Rattle.walk.proofs.Fitting.{each_imp}
@@ -57,7 +58,7 @@ quiet i m e g j = stays (ap (λ (x : Model). tag_of x i) e) g j
 -- the journal after a call is what it was, and then the rows that the call added; these are of different identifiers, which an accepted run journalled
 pub record Extends (m : Moment) : Type 0 where
   pub rows : journal_of m.after.env ≡ journal_of m.before.env ++ added m
-  pub once : Distinct (added m)
+  pub once : Once (added m)
   pub journals : (i : ℕ) → names i (added m) ≡ true → Journals i m
 
 short_journal : (m : Model) → length (journal_of m) ≤ m.count
@@ -71,7 +72,7 @@ same_journal m e =
     let d = none_added m e in
     record {
       rows = e ∙ sym (append-nil (journal_of m.before.env)) ∙ ap (λ xs. journal_of m.before.env ++ xs) (sym d);
-      once = subst Distinct (sym d) tt;
+      once = subst Once (sym d) tt;
       journals = λ i n. cc (sym n ∙ ap (names i) d);
     }
 
@@ -145,7 +146,7 @@ module _ (m : Moment) (t : ℕ) (ps : Span) (asked : m.request ≡ Run t ps) (f 
     accepted_journal : Extends m
     accepted_journal = record {
       rows = a.names_them.journal ∙ ap (λ xs. journal_of m.before.env ++ xs) (sym is_added);
-      once = subst Distinct (sym is_added) a.names_them.once;
+      once = subst Once (sym is_added) a.names_them.once;
       journals = λ i e. accepted_journals i (ap (names i) (sym is_added) ∙ e);
     }
 

@@ -11,7 +11,8 @@ use Rattle.walk.proofs.Fitting.{each_append}
 use Rattle.promote.specs.Growth.{Named, none, more}
 use Rattle.promote.proofs.Growing.{Kept, kept}
 use Rattle.reasons.specs.Journals.{names, name_one, name_all}
-use Rattle.calls.specs.Steps.{Distinct, Names}
+use Rattle.reasons.specs.Laws.{Once}
+use Rattle.calls.specs.Steps.{Names}
 
 names_push : (i : ℕ) (js : List JournalRow) (r : JournalRow) → names i (js ++ r ∷ []) ≡ false → (names i js ≡ false) × (eqb i r.identifier.0 ≡ false)
 names_push i [] r e = let p = or_parts (eqb i r.identifier.0) false e in (refl, p.0)
@@ -29,7 +30,7 @@ push_names i (x ∷ js) r e f =
 apart : (a b : ℕ) → eqb a b ≡ false → eqb b a ≡ false
 apart a b e = ne_eqb b a (λ h. eqb-false a b e (sym h))
 
-once_push : (js : List JournalRow) (r : JournalRow) → Distinct js → names r.identifier.0 js ≡ false → Distinct (js ++ r ∷ [])
+once_push : (js : List JournalRow) (r : JournalRow) → Once js → names r.identifier.0 js ≡ false → Once (js ++ r ∷ [])
 once_push [] r d e = (refl, tt)
 once_push (x ∷ js) r d e =
     let p = or_parts (eqb r.identifier.0 x.identifier.0) (names r.identifier.0 js) e in
@@ -48,7 +49,7 @@ names_none_of : (i : ℕ) (xs ys : List JournalRow) → names i xs ≡ false →
 names_none_of i xs ys e f = false_from_ne_true _ (λ n. ⊎_elim (λ a. true≢false (sym a ∙ e)) (λ b. true≢false (sym b ∙ f)) (names_apart i xs ys n))
 
 -- lists without a row of the same identifier
-pub once_append : (xs ys : List JournalRow) → Distinct xs → Distinct ys → ((i : ℕ) → names i xs ≡ true → names i ys ≡ false) → Distinct (xs ++ ys)
+pub once_append : (xs ys : List JournalRow) → Once xs → Once ys → ((i : ℕ) → names i xs ≡ true → names i ys ≡ false) → Once (xs ++ ys)
 once_append [] ys d e apart = e
 once_append (x ∷ xs) ys d e apart = (
   names_none_of x.identifier.0 xs ys d.0 (apart x.identifier.0 (or_left _ (names x.identifier.0 xs) (eq-eqb x.identifier.0 x.identifier.0 refl))),

@@ -8,7 +8,8 @@ use Rattle.hir.specs.Spans.{ident}
 use Rattle.calls.specs.declared.requests.Request.{Request}
 use Rattle.calls.specs.declared.requests.Request.TheVariants.{Run, Give, Look, Spell}
 use Rattle.calls.specs.declared.requests.Reply.TheVariants.{Tag}
-use Rattle.calls.specs.Steps.{Text, Distinct, look_refusal}
+use Rattle.calls.specs.Steps.{Text, look_refusal}
+use Rattle.reasons.specs.Laws.{Once}
 use Rattle.reasons.specs.Journals.{names}
 use Rattle.calls.proofs.Refusing.{refused_by, refuses_by, untouched_by}
 use Rattle.calls.specs.Histories.{World, Moment, tree_at, looked_as, Follows, History, start, next, Somewhere}
@@ -181,7 +182,7 @@ added_by text w u (x ∷ ms) (next m e f h) i n =
     (names_apart i (added m) (all_added ms) n)
 
 -- no identifier is journalled twice
-once_all : (text : Text) (w u : World) (ms : List Moment) → History text w ms u → Distinct (all_added ms)
+once_all : (text : Text) (w u : World) (ms : List Moment) → History text w ms u → Once (all_added ms)
 once_all text w u [] start = tt
 once_all text w u (x ∷ ms) (next m e f h) =
     once_append (added m) (all_added ms) (done_call text m f).journal.once (once_all text m.after u ms h)

@@ -10,7 +10,8 @@ use Rattle.calls.specs.declared.requests.Reply.TheVariants.{Ran, Tag}
 use Rattle.calls.specs.declared.requests.RequestError.TheVariants.{Refused}
 use Rattle.naming.specs.Texts.{Lawful}
 use Rattle.reasons.specs.Coverings as reasons
-use Rattle.calls.specs.Steps.{Text, Distinct}
+use Rattle.reasons.specs.Laws.{Once}
+use Rattle.calls.specs.Steps.{Text}
 use Rattle.calls.specs.Histories.{RequestAnswer, World, Moment, tree_at, History, Somewhere, Told}
 use Rattle.calls.specs.Words.{is_named, Gives, Journals, TagFollows, added, all_added, refusal_in, rewound_in, Within, Alike}
 
@@ -28,7 +29,7 @@ pub record Promise (text : Text) (w : World) (ms : List Moment) (u : World) : Ty
   pub start_or_gift : (i : ℕ) → is_named w i ≡ true → Somewhere (Gives i) ms → ⊥
   pub start_or_run : (i : ℕ) → is_named w i ≡ true → Somewhere (Journals i) ms → ⊥
   pub gift_or_run : (i : ℕ) → Somewhere (Gives i) ms → Somewhere (Journals i) ms → ⊥
-  pub once : Distinct (all_added ms)
+  pub once : Once (all_added ms)
   -- a name that stands at some moment never changes
   pub stands : (before rest : List Moment) (m : Moment) (i : ℕ) → ms ≡ before ++ (m ∷ rest) → is_named m.before i ≡ true → tag_of u.env i ≡ tag_of m.before.env i
   -- the tags now follow from the calls, and an accepted look answers the tag that follows from the calls before it

@@ -1,5 +1,5 @@
 -- What one call answers and leaves. Assumes nothing.
-use Rattle.std.specs.Prelude.{◌≡◌, ℕ, ◌+◌, ◌≤◌, Bool, false, cond, ◌||◌, ◌⊎◌, List, [], ◌∷◌, ◌++◌, length, drop, Some, None, Ok, Err, Option, Result, ◌==◌, nat_le, nat_lt}
+use Rattle.std.specs.Prelude.{◌≡◌, ℕ, ◌+◌, ◌≤◌, Bool, false, cond, ◌||◌, ◌⊎◌, List, ◌++◌, length, drop, Some, None, Ok, Err, Option, Result, ◌==◌, nat_le, nat_lt}
 use Rattle.hir.specs.declared.ids.IdentifierId.{IdentifierId}
 use Rattle.hir.specs.declared.refusal.Refusal.{Refusal}
 use Rattle.hir.specs.declared.refusal.Refusal.TheVariants as refusals
@@ -18,6 +18,7 @@ use Rattle.checks.specs.Tables.{many_identifiers}
 use Rattle.checks.specs.Rows.{run_refusal}
 use Rattle.reasons.specs.Coverings.{journal, ran}
 use Rattle.reasons.specs.Journals.{names}
+use Rattle.reasons.specs.Laws.{Once}
 
 -- an identifier without a row
 abbrev pub absent : Model → IdentifierId → Bool
@@ -69,16 +70,11 @@ pub record SpellStep (text : Text) (m : Model) (i : IdentifierId) (buffer : List
   pub answers : answer ≡ answered (spell_refusal text m i buffer) (length (promoted_name text m i))
   pub leaves : after ≡ unless (spell_refusal text m i buffer) buffer (overwritten (promoted_name text m i) buffer)
 
--- no identifier twice
-abbrev pub Distinct : List JournalRow → Type 0
-Distinct [] = Unit {0}
-Distinct (r ∷ rs) = (names r.identifier.0 rs ≡ false) × Distinct rs
-
 -- what an accepted run did, by the journal rows that it added
 pub record Names (m : Model) (rows : List JournalRow) (after : Model) : Type 0 where
   -- the rows are of identifiers that had no name, each once, and those now have the tag 2 or 3
   pub unnamed : Each (λ r. Known m r.identifier × (tag_of m r.identifier.0 ≡ 0)) rows
-  pub once : Distinct rows
+  pub once : Once rows
   pub promoted : Each (λ r. (tag_of after r.identifier.0 ≡ 2) ⊎ (tag_of after r.identifier.0 ≡ 3)) rows
   -- the other identifiers are as they were, and so is every declaration
   pub others : (i : ℕ) → names i rows ≡ false → row_of after i ≡ row_of m i

@@ -54,7 +54,7 @@ abbrev pub unplaced : Option Open → Option Refusal
 unplaced None = Some refusals.Shape
 unplaced (Some os) = None
 
--- the rows that a row of depth d closes, and those that stay open
+-- the rows that a row of depth d closes: those with d rows around them, or more
 abbrev pub closing : Open → ℕ → Open
 closing os d = take (length os - d) os
 

@@ -8,7 +8,7 @@ use Rattle.image.specs.Bytes.{Place, past, u32_of}
 use Rattle.image.specs.Format.{Tree, Content, of_identifiers, of_scope, of_function, of_tree, due, after}
 use Rattle.image.specs.Steps.{Opened, and_then, in_section, in_row, ended, both, u8_at, u32_at, numbers_at, row_at, section_at, closed_at, version_at}
 
--- identifier rows, as many as there are whole
+-- one identifier row, declaration and tag, and the place behind it
 abbrev pub identifier_at : Place → Result ((ℕ × ℕ) × Place) ByteFault
 identifier_at = both u32_at u8_at
 
@@ -38,7 +38,7 @@ lists_end (suc n) p = and_then (ended (numbers_at p)) (lists_end n)
 abbrev pub tree_at : Place → Result ((List ℕ × Tree 128) × Place) RowFault
 tree_at = both (λ p. in_row (in_section (numbers_at p))) (row_at 128)
 
--- what a section holds, by the rank of its letter, and where that ends
+-- what was read, as the content of a section
 abbrev pub wrapped : {X : Type 0} → (X → Content) → Result (X × Place) RowFault → Result (Content × Place) RowFault
 wrapped c r = and_then r (λ v. Ok (c v.0, v.1))
 

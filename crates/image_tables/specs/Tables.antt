@@ -123,7 +123,7 @@ pub record Holds (cs : List Content) (t : Tables) : Type 0 where
   pub panels : map (panel_part (vec_items t.pool)) (vec_items t.panels) ≡ panels_in cs
   pub within : ListsWithin t
 
--- the content of a section reads as its letter says
+-- by the rank of a section's letter, the lists that tables take from its content can be read; nothing is asked of identifiers, or of what is behind the lists
 abbrev pub ReadsBy : ℕ → List ℕ → Type 0
 ReadsBy zero bs = Unit {0}
 ReadsBy (suc zero) bs = is_ok (scope_at (0, bs)) ≡ true

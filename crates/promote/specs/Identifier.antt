@@ -33,7 +33,7 @@ promoted why t i =
 abbrev pub is_unnamed : Model → IdentifierId → Bool
 is_unnamed m i = tag_of m i.0 == 0
 
--- the same under a condition
+-- an identifier is promoted where a condition holds, and else nothing changes
 abbrev pub promote_if : Bool → Reason → Tables → IdentifierId → Tables
 promote_if b why t i = cond b (promoted why t i) t
 

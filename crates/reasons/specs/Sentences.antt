@@ -132,8 +132,10 @@ module _ (named : ℕ → Bool) (acts : List third.Act) where
 
 -- the definitions say what the sentences say
 pub record SentencesHold (m : Model) (ps : Span) (rs : List Row) : Type 0 where
+  -- d is an escaped declaration exactly when the sentence on escape holds of it
   pub escape : (d : ℕ) → escapes.escaped m rs d ≡ true → Escaped m (collect.pass_acts rs) d
   pub by_escape : (d : ℕ) → Escaped m (collect.pass_acts rs) d → escapes.escaped m rs d ≡ true
+  -- x is covered for reason 5 exactly when some use of it is found as above
   pub between : (x : ℕ) → list_any (λ (i : IdentifierId). nat_eq x i.0) (interposed.interposed (named_then m ps rs) (pass.pass_acts (identifiers_in m.pool ps) rs)) ≡ true → Found (named_then m ps rs) (pass.pass_acts (identifiers_in m.pool ps) rs) x
   pub by_between : (x : ℕ) → Found (named_then m ps rs) (pass.pass_acts (identifiers_in m.pool ps) rs) x → list_any (λ (i : IdentifierId). nat_eq x i.0) (interposed.interposed (named_then m ps rs) (pass.pass_acts (identifiers_in m.pool ps) rs)) ≡ true
 

@@ -81,7 +81,7 @@ entries (r ∷ rows) = (r.identifier.0, r.reason) ∷ entries rows
 abbrev pub Journals : List Identifier → Span → List Row → List (ℕ × Reason) → Type 0
 Journals is ps rs js = entries (journal (environment is) ps (block rs)) ≡ js
 
--- the same with 2 of declaration 1
+-- five identifiers, of which 1 and 2 have declaration 1
 abbrev pub shared : List Identifier
 shared = declared 0 ∷ declared 1 ∷ declared 1 ∷ declared 3 ∷ declared 4 ∷ []
 
