@@ -15,6 +15,7 @@ use Rattle.checks.specs.Rows.{run_refusal}
 use Rattle.checks.specs.Tables.{many_identifiers}
 use Rattle.calls.specs.declared.requests.Request.{Request}
 use Rattle.calls.specs.declared.requests.Request.TheVariants.{Run, Give, Look, Spell}
+use Rattle.calls.specs.declared.requests.Reply.{Reply}
 use Rattle.calls.specs.declared.requests.Reply.TheVariants.{Ran, Given}
 use Rattle.reasons.specs.Coverings as reasons
 use Rattle.reasons.specs.Laws.{Once}
@@ -22,7 +23,7 @@ use Rattle.reasons.specs.Journals.{names}
 use Rattle.hir.specs.Scratches.{Notes}
 use Rattle.reactive.specs.Rows.{Row}
 use Rattle.calls.specs.Steps.{Text, absent, give_refusal, GiveStep, Names, RunAccepted, RunRefused, RunStep}
-use Rattle.calls.specs.Histories.{World, Moment, tree_at, ran_as, given_as, RunFollows, GiveFollows, TreeFollows, there, nowhere, Follows}
+use Rattle.calls.specs.Histories.{World, Moment, tree_at, told_as, ran_as, given_as, RunFollows, GiveFollows, TreeFollows, there, nowhere, Follows}
 use Rattle.calls.specs.Words.{Gives, added, Journals}
 use Rattle.walk.proofs.Fitting.{each_imp}
 use Rattle.calls.proofs.Naming.{Promoted, member}
@@ -154,6 +155,16 @@ module _ (m : Moment) (t : ℕ) (ps : Span) (asked : m.request ≡ Run t ps) (f 
   pub run_covered : (place count : ℕ) → m.answer ≡ Ok (Ran place count) → added m ≡ reasons.journal m.before.env ps (tree_at m.before t).rows
   run_covered place count said = run_cases f.step (λ e a. is_added a) (λ r e no. cc (sym said ∙ f.told ∙ ap ran_as no.answers))
 
+  pub run_answered : (place count : ℕ) → m.answer ≡ Ok (Ran place count) → (place ≡ m.before.env.count) × (count ≡ length (added m))
+  run_answered place count said =
+      run_cases f.step
+      (λ e a.
+      let told = ran a in
+      let here : place ≡ m.before.env.count = cc in
+      let many : count ≡ length rows = cc in
+      (here, many ∙ ap length (sym (is_added a))))
+      (λ r e no. cc (sym said ∙ f.told ∙ ap ran_as no.answers))
+
   pub run_fate : (i : ℕ) → Fate i m
   run_fate i = run_cases f.step (λ e a. accepted_fate a i) (λ r e no. quiet i m no.env (no_gift i) (λ j. cc (sym j.accepted ∙ f.told ∙ ap ran_as no.answers)))
 
@@ -188,26 +199,32 @@ module _ (m : Moment) (id : IdentifierId) (asked : m.request ≡ Give id) (f : G
 quiet_journal : (m : Moment) → m.after.env ≡ m.before.env → Extends m
 quiet_journal m same = same_journal m (ap journal_of same)
 
+-- no call but a run answers as a run does
+never_ran : {X : Type 0} (reply : X → Reply) → ((x : X) (place count : ℕ) → reply x ≡ Ran place count → ⊥) → (a : Result X Refusal) (place count : ℕ) → Ok (Ran place count) ≡ told_as reply a → ⊥
+never_ran reply apart (Ok x) place count e = apart x place count (let q : Ran place count ≡ reply x = cc in sym q)
+never_ran reply apart (Err r) place count e = cc
+
 -- what a call that follows does
 pub record Done (m : Moment) : Type 0 where
   pub fate : (i : ℕ) → Fate i m
   pub journal : Extends m
+  pub answered : (place count : ℕ) → m.answer ≡ Ok (Ran place count) → (place ≡ m.before.env.count) × (count ≡ length (added m))
 
 done_tree : (m : Moment) (t : ℕ) (ps : Span) → m.request ≡ Run t ps → TreeFollows m.before t ps m.answer m.after → Done m
-done_tree m t ps asked (there h f) = record { fate = run_fate m t ps asked f; journal = run_journal m t ps asked f }
+done_tree m t ps asked (there h f) = record { fate = run_fate m t ps asked f; journal = run_journal m t ps asked f; answered = run_answered m t ps asked f }
 done_tree m t ps asked (nowhere h a e) =
     let same = ap (λ (w : World). w.env) e in
-    record { fate = λ i. quiet i m same (λ g. cc) (λ j. cc); journal = quiet_journal m same }
+    record { fate = λ i. quiet i m same (λ g. cc) (λ j. cc); journal = quiet_journal m same; answered = λ place count said. cc }
 
 done_by : (text : Text) (m : Moment) (q : Request) → m.request ≡ q → Follows text m.before q m.answer m.after → Done m
 done_by text m (Run t ps) asked f = done_tree m t ps asked f
-done_by text m (Give id) asked f = record { fate = give_fate m id asked f; journal = give_journal m id asked f }
+done_by text m (Give id) asked f = record { fate = give_fate m id asked f; journal = give_journal m id asked f; answered = λ place count said. absurd (never_ran _ (λ u p n e. cc) f.answer place count (sym said ∙ f.told)) }
 done_by text m (Look id) asked f =
     let same = ap (λ (w : World). w.env) f.rest in
-    record { fate = λ i. quiet i m same (λ g. cc) (λ j. cc); journal = quiet_journal m same }
+    record { fate = λ i. quiet i m same (λ g. cc) (λ j. cc); journal = quiet_journal m same; answered = λ place count said. absurd (never_ran _ (λ x p n e. cc) f.answer place count (sym said ∙ f.told)) }
 done_by text m (Spell id) asked f =
     let same = ap (λ (w : World). w.env) f.rest in
-    record { fate = λ i. quiet i m same (λ g. cc) (λ j. cc); journal = quiet_journal m same }
+    record { fate = λ i. quiet i m same (λ g. cc) (λ j. cc); journal = quiet_journal m same; answered = λ place count said. absurd (never_ran _ (λ x p n e. cc) f.answer place count (sym said ∙ f.told)) }
 
 pub done_call : (text : Text) (m : Moment) → Follows text m.before m.request m.answer m.after → Done m
 done_call text m f = done_by text m m.request refl f

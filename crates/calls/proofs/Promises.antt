@@ -2,7 +2,8 @@
 use Rattle.std.proofs.Common.{◌≡◌, ℕ, true, not, ◌⊎◌, List, [], ◌∷◌, ◌++◌, Some, None, Ok, Option, sym, refl, ap, ◌∙◌, subst, inl, inr, ⊎_elim, append_assoc, append-nil, arith}
 use Rattle.std.proofs.lemmas.Bool.{eq-eqb, ne_eqb, false_from_ne_true}
 use Rattle.hir.specs.declared.refusal.Refusal.{Refusal}
-use Rattle.hir.specs.Environments.{tag_of, journal_of}
+use Rattle.hir.specs.declared.tables.Identifier.{Identifier}
+use Rattle.hir.specs.Environments.{row_of, tag_of, journal_of}
 use Rattle.hir.specs.Refusals.{answered}
 use Rattle.hir.specs.Spans.{ident}
 use Rattle.calls.specs.declared.requests.Request.{Request}
@@ -19,7 +20,7 @@ use Rattle.naming.specs.Texts.{Lawful}
 use Rattle.reasons.specs.Coverings as reasons
 use Rattle.calls.proofs.Naming.{Promoted, promoted_some, names_apart, once_append}
 use Rattle.calls.proofs.Fates.{Fate, stays, given, named, done_call, ran_follows, run_covered}
-use Rattle.calls.proofs.Spellings.{declares_on, as_many_on, call_letter, alike_by}
+use Rattle.calls.proofs.Spellings.{declares_on, as_many_on, tables_on, call_letter, alike_by}
 
 -- what a list of calls does to an identifier
 data Tale (i : ℕ) (w : World) (ms : List Moment) (u : World) : Type 0 where
@@ -159,6 +160,16 @@ journalled_fate k m c (named x o n g) z = promoted_some _ o z
 journalled_named : (text : Text) (m : Moment) (k : ℕ) → Follows text m.before m.request m.answer m.after → Journals k m → tag_of m.after.env k ≡ 0 → ⊥
 journalled_named text m k f c = journalled_fate k m c ((done_call text m f).fate k)
 
+-- a tag and a declaration are all of an identifier's row
+row_by : (x y : Identifier) → x.tag ≡ y.tag → x.declaration.0 ≡ y.declaration.0 → x ≡ y
+row_by x y t d = λ i. record { declaration = record { 0 = d i }; tag = t i }
+
+-- a name that stands, later on
+stands_later : (text : Text) (v : World) (m : Moment) (i : ℕ) → Follows text m.before m.request m.answer m.after → Led text m.after v → is_named m.before i ≡ true → row_of v.env i ≡ row_of m.before.env i
+stands_later text v m i f led n =
+    let whole : History text m.before (m ∷ led.calls) v = next m refl f led.history in
+    row_by _ _ (tale_start i m.before v (m ∷ led.calls) (tale text i m.before v (m ∷ led.calls) whole) n) (declares_on text m.before v (m ∷ led.calls) whole i)
+
 -- two identifiers that one run named, later on
 alike_later : (text : Text) (v : World) (m : Moment) (i j : ℕ) → Follows text m.before m.request m.answer m.after → Led text m.after v → Journals i m → Journals j m → (naming : Text) → Lawful naming → Alike naming v.env i j
 alike_later text v m i j f led a b naming law =
@@ -211,9 +222,14 @@ promise text w ms u h =
       start_or_run = λ i. tale_start_run i w u ms (t i);
       gift_or_run = λ i. tale_gift_run i w u ms (t i);
       once = once_all text w u ms h;
-      stands = λ before rest m i e n.
+      stands = λ before rest m v i e at n.
           let c = cut_at text w u ms before m rest e h in
-          tale_start i m.before u (m ∷ rest) (tale text i m.before u (m ∷ rest) c.later) n;
+          stands_later text v m i c.follows (led_within text m.after u v rest (after_here text m.before u m rest c.later) at) n;
+      letter = λ before rest m i e j. (call_letter m j.tree j.parameters i j text j.asked (cut_at text w u ms before m rest e h).follows).tag;
+      answered = λ before rest m place count e said. (done_call text m (cut_at text w u ms before m rest e h).follows).answered place count said;
+      adds = λ before rest m i e n. (done_call text m (cut_at text w u ms before m rest e h).follows).journal.journals i n;
+      declarations = declares_on text w u ms h;
+      tables = tables_on text w u ms h;
       journal = all_journal text w u ms h;
       covered = λ before rest m k ps place count e asked said. run_covered m k ps asked (ran_follows text m k ps place count asked said (cut_at text w u ms before m rest e h).follows) place count said;
       refused = λ before rest m r e said. refused_by text m (cut_at text w u ms before m rest e h).follows r said;

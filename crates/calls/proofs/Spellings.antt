@@ -78,10 +78,17 @@ module _ {X : Type 0} (f : Model → X) (by_rows : (m : Model) (rows : List Jour
   keeps_on text w u (x ∷ ms) (next m e s h) =
       keeps_on text m.after u ms h ∙ call_keeps text m.before m.request m.answer m.after s ∙ ap (λ (y : World). f y.env) e
 
--- no call changes a declaration, or how many identifiers there are
+-- no call changes a declaration, a scope, a function or the pool, or how many identifiers there are
 pub declares_on : (text : Text) (w u : World) (ms : List Moment) → History text w ms u → (i : ℕ) → declaration_of u.env i ≡ declaration_of w.env i
 declares_on text w u ms h i =
     keeps_on (λ m. declaration_of m i) (λ m rows after n. n.declarations i) (λ m k t. ap (λ (d : DeclarationId). d.0) (declaration_tagged m.identifiers k i t)) text w u ms h
+
+pub tables_on : (text : Text) (w u : World) (ms : List Moment) → History text w ms u → (u.env.scopes ≡ w.env.scopes) × (u.env.functions ≡ w.env.functions) × (u.env.pool ≡ w.env.pool)
+tables_on text w u ms h = (
+  keeps_on (λ m. m.scopes) (λ m rows after n. n.scopes) (λ m k t. refl) text w u ms h,
+  keeps_on (λ m. m.functions) (λ m rows after n. n.functions) (λ m k t. refl) text w u ms h,
+  keeps_on (λ m. m.pool) (λ m rows after n. n.pool) (λ m k t. refl) text w u ms h,
+)
 
 pub as_many_on : (text : Text) (w u : World) (ms : List Moment) → History text w ms u → length u.env.identifiers ≡ length w.env.identifiers
 as_many_on text w u ms h = keeps_on (λ m. length m.identifiers) (λ m rows after n. n.identifiers) (λ m k t. simp length-set refl) text w u ms h

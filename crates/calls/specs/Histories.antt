@@ -40,12 +40,11 @@ pub record Moment : Type 0 where
 abbrev pub tree_at : World → ℕ → Reading
 tree_at w t = slice_index_or w.trees t (at_place [] 0)
 
--- the answer of a call, as the answer of a request
+-- the answer of a call as that of a request: what `reply` makes of it, or its refusal
 abbrev pub told_as : {X : Type 0} → (X → Reply) → Result X Refusal → RequestAnswer
 told_as reply (Ok x) = Ok (reply x)
 told_as reply (Err r) = Err (Refused r)
 
--- the answers of the four calls, as answers of requests
 -- the answer of a run: it holds the place of the first new journal row and their count where it is accepted
 abbrev pub ran_as : Result (ℕ × ℕ) Refusal → RequestAnswer
 ran_as = told_as (λ p. Ran p.0 p.1)
@@ -113,7 +112,7 @@ abbrev pub Somewhere : (Moment → Type 0) → List Moment → Type 0
 Somewhere P [] = ⊥
 Somewhere P (m ∷ ms) = P m ⊎ Somewhere P ms
 
--- the moments of a list of requests, with their answers
+-- the moments have these requests and answers, as many as both lists have: what is over in either is neither made nor asked for
 abbrev pub Told : List Request → List RequestAnswer → List Moment → Type 0
 Told [] answers ms = ms ≡ []
 Told (q ∷ qs) [] ms = ms ≡ []

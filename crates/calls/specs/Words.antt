@@ -1,5 +1,5 @@
 -- The words of the promise: what holds of a moment, and of moments one after another. Assumes nothing.
-use Rattle.std.specs.Prelude.{◌≡◌, ℕ, ◌≤◌, Bool, true, not, cond, ◌⊎◌, List, [], ◌∷◌, ◌++◌, length, drop, None, Ok, Option, ◌==◌, nat_lt, slice_set}
+use Rattle.std.specs.Prelude.{◌≡◌, ℕ, ◌≤◌, Bool, true, cond, ◌⊎◌, List, [], ◌∷◌, ◌++◌, length, drop, None, Ok, Option, nat_lt, slice_set}
 use Rattle.hir.specs.declared.refusal.Refusal.{Refusal}
 use Rattle.hir.specs.declared.span.Span.{Span}
 use Rattle.hir.specs.declared.tables.JournalRow.{JournalRow}
@@ -8,6 +8,7 @@ use Rattle.hir.specs.Spans.{ident}
 use Rattle.reactive.specs.Rows.{rewound}
 use Rattle.checks.specs.Rows.{run_refusal}
 use Rattle.reasons.specs.Journals.{names}
+use Rattle.reasons.specs.Journals as journals
 use Rattle.calls.specs.declared.requests.Request.{Request}
 use Rattle.calls.specs.declared.requests.Request.TheVariants.{Run, Give, Look, Spell}
 use Rattle.calls.specs.declared.requests.Reply.TheVariants.{Ran, Given}
@@ -16,7 +17,7 @@ use Rattle.calls.specs.Histories.{World, world, Moment, tree_at, Somewhere}
 
 -- the identifier has a name in this world, which any tag but 0 says; one without a row has none
 abbrev pub is_named : World → ℕ → Bool
-is_named w i = not (tag_of w.env i == 0)
+is_named w i = journals.is_named w.env i
 
 -- an accepted gift to identifier i
 abbrev pub Gives : ℕ → Moment → Type 0
@@ -36,7 +37,7 @@ pub record Journals (i : ℕ) (m : Moment) : Type 0 where
   pub accepted : m.answer ≡ Ok (Ran place count)
   pub journalled : names i (added m) ≡ true
 
--- the same, by the tag t
+-- the same, and identifier i has the tag t after it
 abbrev pub JournalsAs : ℕ → ℕ → Moment → Type 0
 JournalsAs i t m = Journals i m × (tag_of m.after.env i ≡ t)
 
@@ -65,7 +66,7 @@ rewound_in w (Give i) = w
 rewound_in w (Look i) = w
 rewound_in w (Spell i) = w
 
--- a world between these moments, the last of which leads to the world u, or u itself
+-- a world before one of these moments, or the world u to which they lead
 abbrev pub Within : List Moment → World → World → Type 0
 Within ms u v = Somewhere (λ m. v ≡ m.before) ms ⊎ (v ≡ u)
 

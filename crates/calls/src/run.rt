@@ -19,7 +19,7 @@ use interposed::interposed::promote_interposed;
 use promote::temporaries::promote_temporaries;
 use reactive::source::TreeSource;
 
-// The four passes, over tables and rows that passed the checks. They take what `run` is lent, as it is: see `Scratch`.
+// The passes, over tables and rows that passed the checks. They take what `run` is lent, as it is: see `Scratch`.
 fn promote_used_temporaries<S: TreeSource>(
     env: &mut Environment,
     scratch: &mut Scratch,

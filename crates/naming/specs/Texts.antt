@@ -6,7 +6,7 @@ use Rattle.hir.specs.declared.refusal.Refusal.TheVariants as refusals
 use Rattle.naming.specs.declared.letter.Letter.{Letter}
 use Rattle.naming.specs.declared.letter.Letter.TheVariants.{Lower, Upper}
 
--- the law of a naming: different letter or number, different text
+-- the law of a naming: for numbers below 65,536, different letter or number, different text
 pub record Lawful (text : Letter → ℕ → List ℕ) : Type 0 where
   pub letters : (l m : Letter) (a b : ℕ) → a < 65536 → b < 65536 → text l a ≡ text m b → l ≡ m
   pub numbers : (l m : Letter) (a b : ℕ) → a < 65536 → b < 65536 → text l a ≡ text m b → a ≡ b

@@ -25,9 +25,12 @@ use tables::{IDENTIFIERS, POOL, ROWS};
 // The sources of the panel's tree, of either sort.
 type Tree<'a> = Either<TableSource<'a>, ImageSource<'a>>;
 
+// How many calls are made.
+const CALLS: usize = 7;
+
 // The calls that are made: a run over the image, a look and a spelling, a gift, a gift that is refused, a run over the table, and
 // one over a tree that is not there.
-const REQUESTS: [Request; 7] = [
+const REQUESTS: [Request; CALLS] = [
     Request::Run(1, tables::PARAMETERS),
     Request::Look(IdentifierId(2)),
     Request::Spell(IdentifierId(3)),
@@ -48,7 +51,7 @@ fn name_panel(rt: &HostRuntime, env: &mut Environment, trees: &mut [Tree]) -> io
         trail: &mut trail,
     };
     let mut text = [0u8; 12];
-    let mut answers: [Answer; 7] = [Err(RequestError::NoTree); 7];
+    let mut answers: [Answer; CALLS] = [Err(RequestError::NoTree); CALLS];
     let made = perform(
         env,
         &mut scratch,
@@ -64,7 +67,7 @@ fn name_panel(rt: &HostRuntime, env: &mut Environment, trees: &mut [Tree]) -> io
     Ok(())
 }
 
-// Prints the account: rows, calls, names, and what stays inline.
+// Makes the calls and prints them, who is named, and what stays inline.
 fn print_account(rt: &HostRuntime, trees: &mut [Tree]) -> io::Result<()> {
     let mut identifiers = tables::identifiers();
     let scopes = tables::scopes();
@@ -81,14 +84,14 @@ fn print_account(rt: &HostRuntime, trees: &mut [Tree]) -> io::Result<()> {
     print_inline(rt, &env)
 }
 
-// Makes the image, and calls on the panel over both of its trees.
+// Makes the image, prints the rows, and makes the calls over both of the panel's trees.
 fn main(rt: HostRuntime) -> io::Result<()> {
     let rows = tables::rows();
     let Ok(image) = image_of(rt.alloc(), &rows) else {
         return println!(rt; "The panel has no image.");
     };
     let Ok(loaded) = load(rt.alloc(), &image) else {
-        return println!(rt; "The image is none.");
+        return println!(rt; "The bytes are no image.");
     };
     let Some(panel) = loaded.panels.first() else {
         return println!(rt; "The image has no tree.");

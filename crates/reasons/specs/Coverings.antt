@@ -70,7 +70,7 @@ between m ps rs = covers reasons.Interposed (interposed (named_then m ps rs) (ac
 abbrev pub before : Model → Span → List Row → List JournalRow
 before m ps rs = firsts (is_named m) (early m ps rs ++ between m ps rs)
 
--- the identifiers that the last pass visits, in order
+-- the identifiers that an act of the last pass visits, in order
 abbrev pub visits_of : Model → instances.Act → List IdentifierId
 visits_of m (instances.again i) = i ∷ []
 visits_of m (instances.parameters f) = identifiers_in m.pool (function_of m f.0).parameters

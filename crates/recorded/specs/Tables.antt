@@ -55,7 +55,7 @@ with_function m f = record m {
   pool = m.pool ++ (f.0 ++ f.1);
 }
 
--- the environment before the first run
+-- the environment before the first run, without journal rows, for which the definitions do not ask
 abbrev pub environment : Recorded → Model
 environment r = fold with_function (fold with_scope (fresh (map identifier r.identifiers) [] [] [] []) r.scopes) r.functions
 

@@ -26,7 +26,7 @@ environment s t = record {
 abbrev pub scratch : Session → Notes
 scratch s = record { work = s.work.items; marks = s.marks.items; trail = s.trail.items }
 
--- no journal row is in use, and there are as many as identifiers; so it is with the work rows, and the marks are as many as functions
+-- no journal row is in use; there are as many journal rows and as many work rows as identifiers, and as many marks as functions; of the trail nothing is said
 pub record Begun (t : Tables) (s : Session) : Type 0 where
   pub count : s.count ≡ 0
   pub journal : length s.journal.items ≡ length t.identifiers.items
