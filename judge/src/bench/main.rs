@@ -27,6 +27,16 @@ pub struct Series {
     pub points: Vec<Point>,
 }
 
+/// All is timed so often, and the best time of each point counts: a machine with other users is slower now and then.
+const PASSES: usize = 4;
+
+impl Point {
+    fn keep_best(&mut self, again: &Point) {
+        self.rust = self.rust.min(again.rust);
+        self.program = self.program.min(again.program);
+    }
+}
+
 fn main() {
     let arguments: Vec<String> = std::env::args().skip(1).collect();
     let folder = PathBuf::from(arguments.first().expect("a folder for the images"));
@@ -43,6 +53,17 @@ fn main() {
 }
 
 fn measure(folder: &Path, program: Option<&Path>) -> Vec<Series> {
+    let mut best = measure_once(folder, program);
+    for _ in 1..PASSES {
+        let again = measure_once(folder, program);
+        let points = again.iter().flat_map(|series| &series.points);
+        let kept = best.iter_mut().flat_map(|series| &mut series.points);
+        kept.zip(points).for_each(|(point, other)| point.keep_best(other));
+    }
+    best
+}
+
+fn measure_once(folder: &Path, program: Option<&Path>) -> Vec<Series> {
     families::all()
         .into_iter()
         .map(|family| {
