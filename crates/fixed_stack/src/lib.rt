@@ -7,7 +7,7 @@ ghost use Rattle.std.specs.Option.{option_to_list};
 use std::marker::Model;
 use std::ops::DerefSlice;
 
-// Beside the kit's ArrayVec, which writes a blank over each place that it gives back: that is a tenth of a run's time.
+// Beside the kit's ArrayVec, which writes a blank over each place that it gives back: in a walk, for each row.
 #[derive(Drop)]
 pub struct FixedStack<T, const CAPACITY: usize> {
     places: [T; CAPACITY],
