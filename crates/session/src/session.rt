@@ -1,9 +1,9 @@
 // What runs write besides the tables of their image: a journal and scratch, which last from run to run.
-ghost use Rattle.std.specs.Prelude.{◌≡◌, IfOk};
+ghost use Rattle.std.specs.Prelude.{◌≡◌, ◌/◌, min, IfOk};
 ghost use Rattle.hir.specs.Environments.{model};
 ghost use Rattle.hir.specs.Scratches.{noted};
 ghost use Rattle.image_source.specs.Sections.{section_rows};
-ghost use Rattle.session.specs.Runs.{environment, scratch, Begun, run_answer, count_after};
+ghost use Rattle.session.specs.Runs.{environment, scratch, longest, Begun, run_answer, count_after};
 
 use calls::run::run;
 use hir::environment::Environment;
@@ -32,9 +32,13 @@ pub struct Session {
 }
 
 // At least the number of rows of each tree that a run accepts.
-fn most_rows(panels: &[Panel]) -> usize {
-    let longest = panels.iter().map(|panel| panel.content.len()).max();
-    (longest.unwrap_or(0) / ROW_BYTES).min(MOST_ROWS)
+fn most_rows(panels: &[Panel]) -> usize
+    ensures { result ≡ min (longest panels.now / 23) 262144 }
+{
+    let longest = panels
+        .iter()
+        .fold(0, |most: usize, panel| most.max(panel.content.len()));
+    (longest / ROW_BYTES).min(MOST_ROWS)
 }
 
 impl Session {
