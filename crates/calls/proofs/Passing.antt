@@ -45,9 +45,7 @@ use Rattle.reasons.specs.Coverings.{journal, ran, upper}
 use Rattle.reasons.specs.Passes.{reset, passed}
 use Rattle.reasons.proofs.Runs.{blank_row, passed_ran}
 use Rattle.calls.specs.Steps.{Names, RunStep}
-use Rattle.instances.proofs.Idle.{idle}
-use Rattle.reasons.proofs.Runs.{count_all, idle_promoted}
-use Rattle.calls.proofs.Naming.{named_names, journal_all}
+use Rattle.calls.proofs.Naming.{named_names, journal_all, count_all}
 use Rattle.calls.proofs.Fates.{added_rows, full_journal}
 
 scope_named : (n : Option Number) (s : ScopeId) → scope_in n ≡ Some s → n ≡ Some (numbers.Scope s)
@@ -186,26 +184,18 @@ module _ (ps : Span) (rs : List Row) where
       let q = passable_grows t _ ps rs p g in
       grows_trans g (instancing.grows_over _ (instances.pass_acts rs) (instancing.ready_rows _ rs q.sound q.rows))
 
-  -- what the passes before the last leave
-  abbrev pub early : Tables → Tables
-  early t = interposed.promote_interposed (temporaries.promote_temporaries (collects.collected (reset t) rs) ps rs) ps rs
-
-  -- the passes name identifiers, and nothing else
-  grows_early : (t : Tables) → Passable t ps rs → Grows t (early t)
-  grows_early t p =
+  -- the four passes name identifiers, and nothing else
+  pub grows_passed : (t : Tables) → Passable t ps rs → Grows t (passed t ps rs)
+  grows_passed t p =
       let a = grows_reset t p in
       let pa = passable_grows t (reset t) ps rs p a in
       let b = grows_collect (reset t) pa in
       let pb = passable_grows _ (collects.collected (reset t) rs) ps rs pa b in
       let c = grows_temporaries (collects.collected (reset t) rs) pb in
       let pc = passable_grows _ (temporaries.promote_temporaries (collects.collected (reset t) rs) ps rs) ps rs pb c in
-      grows_trans a (grows_trans b (grows_trans c (grows_interposed (temporaries.promote_temporaries (collects.collected (reset t) rs) ps rs) pc)))
-
-  passable_early : (t : Tables) → Passable t ps rs → Passable (early t) ps rs
-  passable_early t p = passable_grows t (early t) ps rs p (grows_early t p)
-
-  pub grows_passed : (t : Tables) → Passable t ps rs → Grows t (passed t ps rs)
-  grows_passed t p = grows_trans (grows_early t p) (grows_instances (early t) (passable_early t p))
+      let d = grows_interposed (temporaries.promote_temporaries (collects.collected (reset t) rs) ps rs) pc in
+      let pd = passable_grows _ (interposed.promote_interposed (temporaries.promote_temporaries (collects.collected (reset t) rs) ps rs) ps rs) ps rs pc d in
+      grows_trans a (grows_trans b (grows_trans c (grows_trans d (grows_instances _ pd))))
 
 -- from pass to pass, over a source that is rewound between them
 module _ (ps : Span) (r s : Reading) (back : s ≡ rewound r) where
@@ -228,17 +218,6 @@ ran_passed t ps rs p =
     (visiting.ready_rows t rs p.sound p.rows).fits
     (ready_interposed ps rs t p).fits
     (instancing.ready_rows t rs p.sound p.rows).fits
-
--- the last pass can be left out where those before it named nothing
-pub idle_last : (b t : Tables) (ps : Span) (rs : List Row) → Passable b ps rs → t ≡ early ps rs b → t.env.count ≤ b.env.count → t ≡ passed b ps rs
-idle_last b t ps rs p e few =
-    let q = passable_early ps rs b p in
-    let none = idle_promoted b ps rs p.sound p.parameters (ready_collect ps rs b (reset b) p refl)
-    (visiting.ready_rows b rs p.sound p.rows).fits
-    (ready_interposed ps rs b p).fits
-    (instancing.ready_rows b rs p.sound p.rows).fits
-    (omega (arith, few, ap (λ (x : Tables). x.env.count) e)) in
-    e ∙ sym (idle (early ps rs b) q.sound none ps rs q.parameters (instancing.ready_rows (early ps rs b) rs q.sound q.rows).fits)
 
 -- an accepted run
 module _ (b t : Tables) (ps : Span) (rs : List Row) (e : run_refusal b.env b.notes ps rs ≡ None) (is : t ≡ passed b ps rs) where

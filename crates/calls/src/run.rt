@@ -30,15 +30,11 @@ fn promote_used_temporaries<S: TreeSource>(
     ensures after { tables env.new scratch.new ≡ passed (tables env.old scratch.old) parameters (S.TreeSource.reading source.old).rows }
     ensures source { S.TreeSource.reading source.new ≡ rewound (S.TreeSource.reading source.old) }
 {
-    let first = env.count;
     scratch.reset();
     collect_promotable(source, env, scratch);
     promote_temporaries(source, env, scratch, parameters);
     promote_interposed(source, env, scratch, parameters);
-    // Where none was named, none has a declaration in common with one that was.
-    if env.count > first {
-        promote_all_instances(source, env, scratch, parameters);
-    }
+    promote_all_instances(source, env, scratch, parameters);
 }
 
 // What is wrong with the tables, the parameters, scratch or the rows.

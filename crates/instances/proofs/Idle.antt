@@ -1,25 +1,21 @@
--- Where this run named nothing, the last pass names nothing. Assumes nothing.
-use Rattle.std.proofs.Common.{◌≡◌, ℕ, ◌<◌, Bool, true, false, ◌&&◌, List, [], ◌∷◌, length, refl, ap, ◌∙◌}
-use Rattle.std.proofs.lemmas.Bool.{cond-false}
+-- Where no identifier is left to the last pass, it names nothing. Assumes nothing.
+use Rattle.std.proofs.Common.{◌≡◌, false, List, [], ◌∷◌, refl, sym, ap, ◌∙◌}
+use Rattle.std.proofs.lemmas.Bool.{cond-false, false_from_ne_true, true≢false}
+use Rattle.std.proofs.lemmas.List.Folds.{list_any_at}
 use Rattle.hir.specs.declared.ids.IdentifierId.{IdentifierId}
 use Rattle.hir.specs.declared.span.Span.{Span}
-use Rattle.hir.specs.Environments.{declaration_of, scope_of}
+use Rattle.hir.specs.Environments.{no_identifier, row_of, scope_of}
 use Rattle.hir.specs.Lists.{Each}
-use Rattle.std.specs.List.{fold}
-use Rattle.hir.specs.Scratches.{Tables, work_of}
+use Rattle.std.specs.List.{fold, list_any}
+use Rattle.hir.specs.Scratches.{Tables}
 use Rattle.hir.specs.Sound.{Sound, Known, KnownIn}
 use Rattle.hir.specs.Spans.{identifiers_in}
 use Rattle.reactive.specs.Rows.{Row}
-use Rattle.promote.specs.Identifier.{is_unnamed}
-use Rattle.instances.specs.Instances.{Act, again, parameters, leaves, promote_instance, does, pass_acts, Fits, promote_all_instances}
+use Rattle.instances.specs.Instances.{Act, again, parameters, leaves, promote_instance, is_left, does, pass_acts, Fits, promote_all_instances}
 
-both_false : (b c : Bool) → c ≡ false → (b && c) ≡ false
-both_false true c e = e
-both_false false c e = refl
-
-module _ (t : Tables) (sound : Sound t) (none : (d : ℕ) → d < length t.env.identifiers → (work_of t.notes d).promoted ≡ false) where
+module _ (t : Tables) (sound : Sound t) (none : list_any (is_left t.notes) t.env.identifiers ≡ false) where
   same_instance : (i : IdentifierId) → Known t.env i → promote_instance t i ≡ t
-  same_instance i h = cond-false _ _ _ (both_false (is_unnamed t.env i) _ (none (declaration_of t.env i.0) (sound.declared i.0 h)))
+  same_instance i h = cond-false _ _ _ (false_from_ne_true (is_left t.notes (row_of t.env i.0)) (λ e. true≢false (sym (list_any_at (is_left t.notes) t.env.identifiers i.0 no_identifier h e) ∙ none)))
 
   same_list : (is : List IdentifierId) → Each (Known t.env) is → fold promote_instance t is ≡ t
   same_list [] h = refl

@@ -1,13 +1,14 @@
 -- The last pass on the tables: its acts and what each does. Assumes nothing.
-use Rattle.std.specs.Prelude.{ℕ, cond, ◌&&◌, List, [], ◌++◌, map, Option, ◌==◌}
+use Rattle.std.specs.Prelude.{ℕ, Bool, cond, ◌&&◌, List, [], ◌++◌, map, Option, ◌==◌}
 use Rattle.hir.specs.declared.ids.FunctionId.{FunctionId}
 use Rattle.hir.specs.declared.ids.IdentifierId.{IdentifierId}
 use Rattle.hir.specs.declared.ids.ScopeId.{ScopeId}
 use Rattle.hir.specs.declared.span.Span.{Span}
+use Rattle.hir.specs.declared.tables.Identifier.{Identifier}
 use Rattle.hir.specs.declared.tables.Reason.TheVariants as reasons
 use Rattle.hir.specs.Environments.{Model, declaration_of, scope_of, function_of}
 use Rattle.std.specs.List.{fold}
-use Rattle.hir.specs.Scratches.{Tables, work_of}
+use Rattle.hir.specs.Scratches.{Notes, Tables, work_of}
 use Rattle.hir.specs.Sound.{Known, KnownFunction, KnownScope}
 use Rattle.hir.specs.Spans.{identifiers_in}
 use Rattle.reactive.specs.declared.code.Code.TheVariants as codes
@@ -29,6 +30,10 @@ pub data Act : Type 0 where
 -- an identifier is named if it has no name and this run named one of its declaration
 abbrev pub promote_instance : Tables → IdentifierId → Tables
 promote_instance t i = promote_if (is_unnamed t.env i && (work_of t.notes (declaration_of t.env i.0)).promoted) reasons.SameDeclaration t i
+
+-- an identifier has no name, though this run named one of its declaration
+abbrev pub is_left : Notes → Identifier → Bool
+is_left n i = i.tag == 0 && (work_of n i.declaration.0).promoted
 
 -- what an act leaves: what it visits is named as `promote_instance` says; of a scope first declarations, then dependencies, then reassignments
 abbrev pub does : Tables → Act → Tables

@@ -1,19 +1,19 @@
 ghost use Rattle.std.specs.Prelude.{◌≡◌, ℕ, ◌<◌, map, length};
 ghost use Rattle.hir.specs.Environments.{model};
 ghost use Rattle.hir.specs.Lists.{Each};
-ghost use Rattle.std.specs.List.{fold};
-ghost use Rattle.hir.specs.Scratches.{tables};
+ghost use Rattle.std.specs.List.{fold, list_any};
+ghost use Rattle.hir.specs.Scratches.{noted, tables};
 ghost use Rattle.hir.specs.Sound.{Sound, Known, KnownIn, KnownScope, KnownFunction};
 ghost use Rattle.hir.specs.Spans.{identifiers_in};
 ghost use Rattle.reactive.specs.Rows.{Reading, rewound};
 ghost use Rattle.walk.specs.Events.{Shallow, on_tables};
-ghost use Rattle.instances.specs.Instances.{promote_instance, does, Act, again, parameters, leaves, acts, Readies, Ready, pass_acts, promote_all_instances};
+ghost use Rattle.instances.specs.Instances.{promote_instance, is_left, does, Act, again, parameters, leaves, acts, Readies, Ready, pass_acts, promote_all_instances};
 
 use hir::environment::Environment;
 use hir::ids::{FunctionId, IdentifierId, ScopeId};
 use hir::scratch::Scratch;
 use hir::span::Span;
-use hir::tables::Reason;
+use hir::tables::{Identifier, Reason};
 use promote::identifier::promote_unnamed;
 use reactive::code::Code;
 use reactive::given::GivenRow;
@@ -118,7 +118,27 @@ impl Visitor for PromoteAllInstances {
     }
 }
 
-// Visits own parameters, and then the rows.
+// Whether an identifier has no name though this run named one of its declaration.
+fn is_left(scratch: &Scratch, identifier: Identifier) -> bool
+    ensures { result ≡ is_left (noted scratch.now) identifier }
+{
+    identifier.is_unnamed()
+        && scratch
+            .work
+            .get(identifier.declaration.0 as usize)
+            .is_some_and(|work| work.promoted)
+}
+
+// Whether there is such an identifier.
+fn some_left(env: &Environment, scratch: &Scratch) -> bool
+    ensures { result ≡ list_any (is_left (noted scratch.now)) (model env.now).identifiers }
+{
+    env.identifiers
+        .iter()
+        .any(|identifier| is_left(scratch, *identifier))
+}
+
+// Visits own parameters, and then the rows, where there is an identifier to name.
 pub fn promote_all_instances<S: TreeSource>(
     source: &mut S,
     env: &mut Environment,
@@ -131,6 +151,10 @@ pub fn promote_all_instances<S: TreeSource>(
     ensures after { tables env.new scratch.new ≡ promote_all_instances (tables env.old scratch.old) parameters (S.TreeSource.reading source.old).rows }
     ensures source { S.TreeSource.reading source.new ≡ rewound (S.TreeSource.reading source.old) }
 {
+    if !some_left(env, scratch) {
+        source.rewind();
+        return;
+    }
     promote_all_instances_list(env, scratch, parameters);
     let mut visitor = PromoteAllInstances;
     walk(source, &mut visitor, env, scratch);

@@ -1,5 +1,5 @@
 -- The four passes leave what the coverings of a run say. Assumes nothing.
-use Rattle.std.proofs.Common.{◌≡◌, ℕ, ◌+◌, ◌<◌, ◌≤◌, Bool, false, Option, IfSome, is_some, None, List, [], ◌∷◌, ◌++◌, length, get_or, replicate, sym, refl, ap, ◌∙◌, subst, ⊎_elim, append_assoc, append-nil, arith}
+use Rattle.std.proofs.Common.{◌≡◌, ℕ, ◌≤◌, Bool, false, Option, IfSome, is_some, None, List, [], ◌∷◌, ◌++◌, length, get_or, replicate, sym, refl, ap, ◌∙◌, subst, ⊎_elim, append_assoc, append-nil}
 use Rattle.std.proofs.lemmas.List.Sums.{fold-append}
 use Rattle.std.specs.List.{filter, fold}
 use Rattle.std.proofs.lemmas.List.Elements.{filter-append}
@@ -28,7 +28,7 @@ use Rattle.collect.proofs.Keeping as keeping
 use Rattle.interposed.specs.Acts as interposes
 use Rattle.interposed.specs.Interposed as interposed
 use Rattle.instances.specs.Instances as instances
-use Rattle.reasons.specs.Journals.{declares, name_one, name_all}
+use Rattle.reasons.specs.Journals.{declares}
 use Rattle.reasons.specs.Escapes as escapes
 use Rattle.reasons.specs.Interposed as known
 use Rattle.reasons.specs.Coverings.{covers, early, between, before, late, visits, journal, upper, ran, named_then}
@@ -72,15 +72,6 @@ marks_does w (collects.flags i) = refl
 marks_over : (w : Whole CollectPromotable) (acts : List collects.Act) → (fold collects.does w acts).tables.notes.marks ≡ w.tables.notes.marks
 marks_over w [] = refl
 marks_over w (a ∷ acts) = marks_over (collects.does w a) acts ∙ marks_does w a
-
--- how many journal rows are in use once some rows were named
-pub count_all : (up : ℕ → Bool) (m : Model) (js : List JournalRow) → (name_all up m js).count ≡ m.count + length js
-count_all up m [] = omega arith
-count_all up m (r ∷ js) = let h = count_all up (name_one up m r) js in omega (arith, h)
-
-none_declares : (m : Model) (js : List JournalRow) (d : ℕ) → length js ≤ 0 → declares m js d ≡ false
-none_declares m [] d h = refl
-none_declares m (r ∷ js) d h = absurd (omega arith)
 
 -- tables and rows that no check refused
 module _ (t : Tables) (ps : Span) (rs : List Row) (sound : Sound t) (parameters : KnownIn t.env ps) (ready : collects.Ready (collects.begun (reset t)) (collects.pass_acts rs)) (second : Each (temporaries.Fits t.env) (temporaries.pass_acts rs)) (third : Each (interposes.Fits t.env) (interposed.pass_acts (identifiers_in t.env.pool ps) rs)) (fourth : Each (instances.Fits t.env) (instances.pass_acts rs)) where
@@ -199,13 +190,6 @@ module _ (t : Tables) (ps : Span) (rs : List Row) (sound : Sound t) (parameters 
       let Q : List JournalRow → Type 0 = λ js. Seen t.env up out (declares t.env) js three in
       let s = subst Q before_is (subst P (sym own_two) knows_end.seen) in
       record { view = s.view; sound = s.sound }
-
-  -- where the passes before the last named nothing, no declaration is noted as promoted
-  pub idle_promoted : three.env.count ≤ t.env.count → (d : ℕ) → d < length three.env.identifiers → (work_of three.notes d).promoted ≡ false
-  idle_promoted h d low =
-      let v = seen_three.view in
-      let few : length (before t.env ps rs) ≤ 0 = omega (arith, h, ap (λ (x : Model). x.count) v.env, count_all up t.env (before t.env ps rs)) in
-      v.promoted_so d (omega (arith, low, v.grown.size)) ∙ none_declares t.env (before t.env ps rs) d few
 
   own_three : identifiers_in three.env.pool ps ≡ own
   own_three = ap (λ p. identifiers_in p ps) seen_three.view.grown.pool

@@ -6,6 +6,7 @@ use Rattle.walk.proofs.Acting.{tables_over, tables_allowed}
 use Rattle.promote.specs.Growth.{Grows}
 use Rattle.instances.specs.declared.instances.PromoteAllInstances.{PromoteAllInstances}
 use Rattle.instances.specs.Instances.{does, acts, Ready, pass_acts}
+use Rattle.instances.proofs.Idle.{idle}
 use Rattle.instances.proofs.Passes.{grows_list, splits, ready_grows}
 use Rattle.instances.proofs.instances.promote_all_instances.Goals as goal
 
@@ -19,6 +20,11 @@ walk-requires g c =
       shallow = c.requires.shallow;
       allowed = tables_allowed does Ready splits acts (events [] rows) (whole _ on) (ready_grows b on (pass_acts rows) c.requires.ready grown);
     }
+
+pub returns-then-not-some_left-clause-after : goal.returns-then-not-some_left-clause-after
+returns-then-not-some_left-clause-after g c =
+    let b = tables c.args.env.now c.args.scratch.now in
+    sym (idle b c.requires.ready.sound (sym c.if-not-some_left.ensures) c.args.parameters (g.S.TreeSource.reading c.args.source.now).rows c.requires.known c.requires.ready.fits)
 
 pub returns : goal.returns
 returns g c =
