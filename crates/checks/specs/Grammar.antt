@@ -3,8 +3,8 @@ use Rattle.std.specs.Prelude.{ℕ, Bool, true, false, cond, ◌&&◌, ◌||◌, 
 use Rattle.std.specs.List.{list_any}
 use Rattle.checks.specs.declared.grammar.Sort.{Sort}
 use Rattle.checks.specs.declared.grammar.Sort.TheVariants as sorts
-use Rattle.checks.specs.declared.grammar.Slot.{Slot}
-use Rattle.checks.specs.declared.grammar.Slot.TheVariants.{One, Optional, Many}
+use Rattle.checks.specs.declared.grammar.Places.{Places}
+use Rattle.checks.specs.declared.grammar.Places.TheVariants as places
 
 -- n is a, b or a number between them
 abbrev pub between : ℕ → ℕ → ℕ → Bool
@@ -19,23 +19,17 @@ admits sorts.Value c = between 5 9 c
 admits sorts.Case c = c == 15
 admits sorts.Handler c = c == 24
 
--- the sort of the children of a place
-abbrev pub sort : Slot → Sort
-sort (One s) = s
-sort (Optional s) = s
-sort (Many s) = s
+-- a place for children of one sort: for exactly one, for one or none, for any number
+pub data Slot : Type 0 where
+  One : Sort → Slot
+  Optional : Sort → Slot
+  Many : Sort → Slot
 
 -- a place that has to be filled
 abbrev pub required : Slot → Bool
 required (One s) = true
 required (Optional s) = false
 required (Many s) = false
-
--- a place that stays after a child
-abbrev pub repeats : Slot → Bool
-repeats (One s) = false
-repeats (Optional s) = false
-repeats (Many s) = true
 
 -- the place of exactly one Block
 abbrev pub block : Slot
@@ -89,3 +83,25 @@ follow (Many s ∷ rest) c = cond (admits s c) (Some (Many s ∷ rest)) (follow 
 -- a child is missing
 abbrev pub lacking : List Slot → Bool
 lacking slots = list_any required slots
+
+-- the places that a value of `Places` stands for
+abbrev pub slots : Places → List Slot
+slots places.Nothing = []
+slots places.Statements = Many sorts.Statement ∷ []
+slots places.Cases = Many sorts.Case ∷ []
+slots places.InstructionsThenValue = Many sorts.Instruction ∷ value ∷ []
+slots places.OptionalBlock = Optional sorts.Block ∷ []
+slots places.OptionalValue = Optional sorts.Value ∷ []
+slots places.Block = block ∷ []
+slots places.BlockThenOptionalBlock = block ∷ Optional sorts.Block ∷ []
+slots places.BlockThenOptionalValue = block ∷ Optional sorts.Value ∷ []
+slots places.BlockThenValue = block ∷ value ∷ []
+slots places.BlockThenHandler = block ∷ One sorts.Handler ∷ []
+slots places.Handler = One sorts.Handler ∷ []
+slots places.Value = value ∷ []
+slots places.ValueThenBlock = value ∷ block ∷ []
+slots places.ValueThenBlockThenOptionalValue = value ∷ block ∷ Optional sorts.Value ∷ []
+slots places.TwoValues = value ∷ value ∷ []
+slots places.TwoValuesThenBlock = value ∷ value ∷ block ∷ []
+slots places.TwoValuesThenBlockThenOptionalValue = value ∷ value ∷ block ∷ Optional sorts.Value ∷ []
+slots places.ThreeValues = value ∷ value ∷ value ∷ []

@@ -13,9 +13,8 @@ use Rattle.reactive.specs.declared.row.Number.TheVariants as numbers
 use Rattle.reactive.specs.declared.row.RowHead.{RowHead}
 use Rattle.reactive.specs.Codes.{has_scope}
 use Rattle.reactive.specs.Rows.{Row, head}
-use Rattle.checks.specs.declared.grammar.Slot.{Slot}
 use Rattle.checks.specs.declared.sizes.Sizes as own
-use Rattle.checks.specs.Grammar.{between, children, follow, lacking}
+use Rattle.checks.specs.Grammar.{Slot, between, children, follow, lacking}
 use Rattle.checks.specs.Tables.{tables_refusal}
 
 -- how many identifiers, scopes and functions there are

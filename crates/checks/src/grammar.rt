@@ -2,7 +2,7 @@
 ghost use Rattle.std.specs.Prelude.{◌≡◌};
 ghost use Rattle.std.specs.Option.{option_map};
 ghost use Rattle.reactive.specs.Codes.{code_number};
-ghost use Rattle.checks.specs.Grammar.{admits, sort, required, repeats, children, follow, lacking};
+ghost use Rattle.checks.specs.Grammar.{admits, slots, children, follow, lacking};
 
 use reactive::code::Code;
 
@@ -17,12 +17,29 @@ pub enum Sort {
     Handler,
 }
 
-// A place for children of one sort.
-#[derive(Clone, Copy)]
-pub enum Slot {
-    One(Sort),
-    Optional(Sort),
-    Many(Sort),
+// The places for children that an open row has left, in order: one value for each such list, since each row is looked up in one.
+#[derive(Clone, Copy, Default)]
+pub enum Places {
+    #[default]
+    Nothing,
+    Statements,
+    Cases,
+    InstructionsThenValue,
+    OptionalBlock,
+    OptionalValue,
+    Block,
+    BlockThenOptionalBlock,
+    BlockThenOptionalValue,
+    BlockThenValue,
+    BlockThenHandler,
+    Handler,
+    Value,
+    ValueThenBlock,
+    ValueThenBlockThenOptionalValue,
+    TwoValues,
+    TwoValuesThenBlock,
+    TwoValuesThenBlockThenOptionalValue,
+    ThreeValues,
 }
 
 impl Sort {
@@ -62,79 +79,73 @@ impl Sort {
     }
 }
 
-impl Slot {
-    // The sort of the children.
-    fn sort(self) -> Sort
-        ensures { result ≡ sort self }
+impl Places {
+    // Whether a child is missing.
+    pub fn lack(self) -> bool
+        ensures { result ≡ lacking (slots self) }
     {
-        match self {
-            Slot::One(sort) | Slot::Optional(sort) | Slot::Many(sort) => sort,
-        }
+        !matches!(
+            self,
+            Places::Nothing
+                | Places::Statements
+                | Places::Cases
+                | Places::OptionalBlock
+                | Places::OptionalValue
+        )
     }
 
-    // Whether the place has to be filled.
-    fn required(self) -> bool
-        ensures { result ≡ required self }
+    // The places that are left after a child of this code, or none where it may not come.
+    pub fn follow(self, code: Code) -> Option<Places>
+        ensures { option_map slots result ≡ follow (slots self) (code_number code) }
     {
-        matches!(self, Slot::One(_))
-    }
-
-    // Whether the place stays after a child.
-    fn repeats(self) -> bool
-        ensures { result ≡ repeats self }
-    {
-        matches!(self, Slot::Many(_))
+        let (sort, rest) = match self {
+            Places::Nothing => return None,
+            Places::Statements => (Sort::Statement, Places::Statements),
+            Places::Cases => (Sort::Case, Places::Cases),
+            Places::InstructionsThenValue if code == Code::Instruction => return Some(self),
+            Places::OptionalBlock | Places::Block => (Sort::Block, Places::Nothing),
+            Places::BlockThenOptionalBlock => (Sort::Block, Places::OptionalBlock),
+            Places::BlockThenOptionalValue => (Sort::Block, Places::OptionalValue),
+            Places::BlockThenValue => (Sort::Block, Places::Value),
+            Places::BlockThenHandler => (Sort::Block, Places::Handler),
+            Places::Handler => (Sort::Handler, Places::Nothing),
+            Places::OptionalValue | Places::Value | Places::InstructionsThenValue => {
+                (Sort::Value, Places::Nothing)
+            }
+            Places::ValueThenBlock => (Sort::Value, Places::Block),
+            Places::ValueThenBlockThenOptionalValue => {
+                (Sort::Value, Places::BlockThenOptionalValue)
+            }
+            Places::TwoValues => (Sort::Value, Places::Value),
+            Places::TwoValuesThenBlock => (Sort::Value, Places::ValueThenBlock),
+            Places::TwoValuesThenBlockThenOptionalValue => {
+                (Sort::Value, Places::ValueThenBlockThenOptionalValue)
+            }
+            Places::ThreeValues => (Sort::Value, Places::TwoValues),
+        };
+        sort.admits(code).then_some(rest)
     }
 }
-
-// One block.
-const BLOCK: Slot = Slot::One(Sort::Block);
-
-// One value.
-const VALUE: Slot = Slot::One(Sort::Value);
 
 // The places of a row of this code.
-pub fn children(code: Code) -> &'static [Slot]
-    ensures { result.now ≡ children (code_number code) }
+pub fn children(code: Code) -> Places
+    ensures { slots result ≡ children (code_number code) }
 {
     match code {
-        Code::Block => &[Slot::Many(Sort::Statement)],
-        Code::Instruction | Code::Optional => &[VALUE],
-        Code::Scope | Code::Pruned | Code::Label | Code::Handler => &[BLOCK],
-        Code::Leaf | Code::Break | Code::Continue | Code::Return | Code::Throw => &[],
-        Code::Logical => &[VALUE, VALUE],
-        Code::Conditional => &[VALUE, VALUE, VALUE],
-        Code::Sequence => &[Slot::Many(Sort::Instruction), VALUE],
-        Code::Switch => &[Slot::Many(Sort::Case)],
-        Code::Case => &[Slot::Optional(Sort::Block)],
-        Code::DoWhile => &[BLOCK, VALUE],
-        Code::While | Code::ForIn => &[VALUE, BLOCK],
-        Code::For => &[VALUE, VALUE, BLOCK, Slot::Optional(Sort::Value)],
-        Code::ForOf => &[VALUE, VALUE, BLOCK],
-        Code::If => &[BLOCK, Slot::Optional(Sort::Block)],
-        Code::Try => &[BLOCK, Slot::One(Sort::Handler)],
+        Code::Block => Places::Statements,
+        Code::Instruction | Code::Optional => Places::Value,
+        Code::Scope | Code::Pruned | Code::Label | Code::Handler => Places::Block,
+        Code::Leaf | Code::Break | Code::Continue | Code::Return | Code::Throw => Places::Nothing,
+        Code::Logical => Places::TwoValues,
+        Code::Conditional => Places::ThreeValues,
+        Code::Sequence => Places::InstructionsThenValue,
+        Code::Switch => Places::Cases,
+        Code::Case => Places::OptionalBlock,
+        Code::DoWhile => Places::BlockThenValue,
+        Code::While | Code::ForIn => Places::ValueThenBlock,
+        Code::For => Places::TwoValuesThenBlockThenOptionalValue,
+        Code::ForOf => Places::TwoValuesThenBlock,
+        Code::If => Places::BlockThenOptionalBlock,
+        Code::Try => Places::BlockThenHandler,
     }
-}
-
-// The places that are left after a child of this code, or none where it may not come.
-pub fn follow(slots: &'static [Slot], code: Code) -> Option<&'static [Slot]>
-    ensures { option_map (λ x. x.now) result ≡ follow slots.now (code_number code) }
-{
-    for (i, slot) in slots.iter().enumerate() {
-        if slot.sort().admits(code) {
-            let from = if slot.repeats() { i } else { i + 1 };
-            return Some(&slots[from..]);
-        }
-        if slot.required() {
-            return None;
-        }
-    }
-    None
-}
-
-// Whether a child is missing.
-pub fn lacking(slots: &[Slot]) -> bool
-    ensures { result ≡ lacking slots.now }
-{
-    slots.iter().any(|slot| slot.required())
 }

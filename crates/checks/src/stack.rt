@@ -6,7 +6,7 @@ ghost use Rattle.reactive.specs.Codes.{code_number};
 ghost use Rattle.checks.specs.Grammar.{lacking};
 ghost use Rattle.checks.specs.Rows.{wrong_depth, closing, placed, opened, unplaced, ended};
 
-use crate::grammar::{Slot, children, follow, lacking};
+use crate::grammar::{Places, children};
 use fixed_stack::FixedStack;
 use hir::refusal::Refusal;
 use hir::span::MOST_OPEN;
@@ -16,16 +16,17 @@ use std::marker::Model;
 // The open rows, outermost first, each as the places that it has left.
 #[derive(Drop)]
 pub struct Stack {
-    rows: FixedStack<&'static [Slot], MOST_OPEN>,
+    rows: FixedStack<Places, MOST_OPEN>,
 }
 
 impl Model for Stack {
-    ghost use Rattle.std.specs.Prelude.{List, map, reverse};
-    ghost use Rattle.checks.specs.declared.grammar.Slot.{Slot};
+    ghost use Rattle.std.specs.Prelude.{map, reverse};
+    ghost use Rattle.checks.specs.Grammar.{slots};
+    ghost use Rattle.checks.specs.Rows.{Open};
 
-    ghost Value = { List (List Slot) };
+    ghost Value = { Open };
 
-    ghost view = { λ s. reverse (map (λ x. x.now) s.rows) };
+    ghost view = { λ s. reverse (map slots s.rows) };
 }
 
 impl Stack {
@@ -53,8 +54,8 @@ impl Stack {
         requires { depth ≤ length self.now }
         ensures { result ≡ list_any lacking (closing self.now depth) }
     {
-        for slots in &self.rows[depth..] {
-            if lacking(slots) {
+        for places in &self.rows[depth..] {
+            if places.lack() {
                 return true;
             }
         }
@@ -68,8 +69,8 @@ impl Stack {
         ensures rows { OnOk result (placed self.old (code_number code) ≡ Some self.new) }
     {
         match self.rows.pop() {
-            Some(slots) => {
-                let Some(rest) = follow(slots, code) else {
+            Some(places) => {
+                let Some(rest) = places.follow(code) else {
                     return Err(Refusal::Shape);
                 };
                 self.rows.push(rest);
