@@ -1,7 +1,13 @@
 -- The lists of the row last given, one element after another. Assumes nothing.
-use Rattle.std.proofs.Common.{◌≡◌, ℕ, ◌+◌, ◌-◌, ◌<◌, Bool, true, false, List, [], ◌∷◌, length, drop, is_some, Some, None, Option, MatchOption, unwrap_or, sym, refl, ap, ◌∙◌, subst, add-one, arith}
+use Rattle.std.proofs.Common.{◌≡◌, ℕ, ◌+◌, ◌<◌, ◌^◌, Bool, true, false, List, [], ◌∷◌, length, drop, is_some, Some, None, Option, unwrap_or, sym, refl, ap, ◌∙◌, subst, add-one, arith}
 use Rattle.std.specs.List.{slice_get}
+use Rattle.std.proofs.lemmas.List.{drop_all}
+use Rattle.std.proofs.lemmas.Option.{slice_get_within}
 use Rattle.hir.specs.declared.ids.IdentifierId.{IdentifierId}
+use Rattle.reactive.specs.declared.given.RowList.{RowList}
+use Rattle.reactive.specs.declared.given.RowList.TheVariants.{Operands, Marks}
+use Rattle.reactive.specs.declared.row.RowHead.{RowHead}
+use Rattle.reactive.specs.Given.{Given, Lists}
 use Rattle.reactive.specs.Rows.{Row, Reading, given, pick, last_row, no_row}
 use Rattle.reactive.proofs.Steps.{drop_at_some, none_place}
 
@@ -16,18 +22,15 @@ module _ (f : Row → List IdentifierId) (s : Reading) (i : ℕ) (some : is_some
       drop_at_some (f (last_row s)) i id (sym (found ∙ picked f (given s) i some))
       ∙ ap (λ k. id ∷ drop k (f (last_row s))) (sym (add-one i))
 
-  -- within the list an element is found
-  pub found_within : (n : ℕ) → n ≡ length (f (last_row s)) → i < n → pick f (given s) i ≡ None → ⊥
-  found_within n size low e =
-      let h = none_place (f (last_row s)) i (sym (picked f (given s) i some) ∙ e) in
-      omega arith
+  -- it is within the list
+  pub found_low : (id : IdentifierId) → Some id ≡ pick f (given s) i → i < length (f (last_row s))
+  found_low id found = slice_get_within (f (last_row s)) i id (sym (found ∙ picked f (given s) i some))
 
-  found_first : (n : ℕ) → n ≡ length (f (last_row s)) → i < n → (o : Option IdentifierId) → o ≡ pick f (given s) i → MatchOption o ((drop i (f (last_row s)) ≡ []) × (drop (i + 1) (f (last_row s)) ≡ [])) (λ id. drop i (f (last_row s)) ≡ id ∷ drop (i + 1) (f (last_row s)))
-  found_first n size low None e = absurd (found_within n size low (sym e))
-  found_first n size low (Some id) e = found_here id e
+  -- where none was found, none is left
+  pub none_left : None ≡ pick f (given s) i → drop i (f (last_row s)) ≡ []
+  none_left found = drop_all _ _ (none_place (f (last_row s)) i (sym (found ∙ picked f (given s) i some)))
 
-  -- within the list the element found at its place is the first of those from there on
-  pub first_found : (n place next : ℕ) → n ≡ length (f (last_row s)) → (0 < n - i) × (place ≡ i) × (next ≡ i + 1) → (o : Option IdentifierId) → o ≡ pick f (given s) place → MatchOption o ((drop i (f (last_row s)) ≡ []) × (drop next (f (last_row s)) ≡ [])) (λ id. drop i (f (last_row s)) ≡ id ∷ drop next (f (last_row s)))
-  first_found n place next size (low, here, up) o e =
-      subst (λ k. MatchOption o ((drop i (f (last_row s)) ≡ []) × (drop k (f (last_row s)) ≡ [])) (λ id. drop i (f (last_row s)) ≡ id ∷ drop k (f (last_row s)))) (sym up)
-      (found_first n size (omega (arith, low)) o (e ∙ ap (pick f (given s)) here))
+-- both lists of a row are as long as its head says, in numbers of the machine
+pub lists_given : (s : Reading) (h : RowHead) → Given s h → h.operands < 2 ^ 64 → h.marks < 2 ^ 64 → (l : RowList) → Lists s l
+lists_given s h g few scarce Operands = record { given = g.given; short = subst (λ (x : RowHead). x.operands < 2 ^ 64) g.row few }
+lists_given s h g few scarce Marks = record { given = g.given; short = subst (λ (x : RowHead). x.marks < 2 ^ 64) g.row scarce }

@@ -1,5 +1,5 @@
 -- The row that a source gave last. Assumes nothing.
-use Rattle.std.specs.Prelude.{◌≡◌, ℕ, true, List, length, is_some}
+use Rattle.std.specs.Prelude.{◌≡◌, ◌<◌, ◌^◌, true, List, length, is_some}
 use Rattle.hir.specs.declared.ids.IdentifierId.{IdentifierId}
 use Rattle.reactive.specs.declared.given.RowList.{RowList}
 use Rattle.reactive.specs.declared.given.RowList.TheVariants.{Operands, Marks}
@@ -16,7 +16,7 @@ pub record Given (s : Reading) (h : RowHead) : Type 0 where
   pub given : is_some (given s) ≡ true
   pub row : h ≡ head (last_row s)
 
--- a row was given, and its list has n identifiers
-pub record Lists (s : Reading) (l : RowList) (n : ℕ) : Type 0 where
+-- a row was given, and the length of its list is a number of the machine
+pub record Lists (s : Reading) (l : RowList) : Type 0 where
   pub given : is_some (given s) ≡ true
-  pub length : n ≡ length (list_of l (last_row s))
+  pub short : length (list_of l (last_row s)) < 2 ^ 64

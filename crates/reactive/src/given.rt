@@ -7,7 +7,6 @@ use crate::row::RowHead;
 use crate::source::TreeSource;
 use hir::ids::IdentifierId;
 use std::marker::Model;
-use std::ops::Range;
 
 // One of the two lists of a row: a name and no closure, since an iterator keeps it and asks on.
 #[derive(Clone, Copy)]
@@ -66,14 +65,10 @@ impl<'a, S: TreeSource> GivenRow<'a, S> {
     pub fn list(&self, list: RowList) -> Identifiers<'a, S>
         ensures { result ≡ list_of list self.now }
     {
-        let end = match list {
-            RowList::Operands => self.head.operands,
-            RowList::Marks => self.head.marks,
-        };
         Identifiers {
             source: self.source,
             list,
-            places: 0..end,
+            place: 0,
         }
     }
 
@@ -92,12 +87,12 @@ impl<'a, S: TreeSource> GivenRow<'a, S> {
     }
 }
 
-// The identifiers of a list of a row that are still to come.
+// The identifiers of a list of a row that are still to come. They end where the source has no more: no length is asked for.
 #[derive(Drop)]
 pub struct Identifiers<'a, S: TreeSource> {
     source: &'a S,
     list: RowList,
-    places: Range<usize>,
+    place: usize,
 }
 
 impl<'a, S: TreeSource> Model for Identifiers<'a, S> {
@@ -108,9 +103,9 @@ impl<'a, S: TreeSource> Model for Identifiers<'a, S> {
 
     ghost Value = { List IdentifierId };
 
-    ghost view = { λ i. drop i.places.start (list_of i.list (last_row (S.TreeSource.reading i.source.now))) };
+    ghost view = { λ i. drop i.place (list_of i.list (last_row (S.TreeSource.reading i.source.now))) };
 
-    ghost invariant = { λ i. Lists (S.TreeSource.reading i.source.now) i.list i.places.end };
+    ghost invariant = { λ i. Lists (S.TreeSource.reading i.source.now) i.list };
 }
 
 impl<'a, S: TreeSource> Iterator for Identifiers<'a, S> {
@@ -123,6 +118,8 @@ impl<'a, S: TreeSource> Iterator for Identifiers<'a, S> {
     ghost remaining = { item_count (λ ids. ids) };
 
     fn next(&mut self) -> Option<IdentifierId> {
-        self.list.item(self.source, self.places.next()?)
+        let id = self.list.item(self.source, self.place)?;
+        self.place += 1;
+        Some(id)
     }
 }

@@ -1,5 +1,6 @@
 ghost use Rattle.std.specs.Prelude.{◌≡◌};
 ghost use Rattle.std.specs.List.{slice_get};
+ghost use Rattle.std.specs.Option.{option_map};
 ghost use Rattle.hir.specs.Spans.{identifiers_in};
 ghost use Rattle.reactive.specs.Tables.{table_reading, table_source, table_head, before};
 
@@ -69,10 +70,10 @@ impl<'a> TableSource<'a> {
     }
 
     // The row last given.
-    fn given(&self) -> Option<RowEntry>
-        ensures { result ≡ before self.now.rows.now self.now.position }
+    fn given(&self) -> Option<&'a RowEntry>
+        ensures { option_map (λ e. e.now) result ≡ before self.now.rows.now self.now.position }
     {
-        self.rows.get(self.position.checked_sub(1)?).copied()
+        self.rows.get(self.position.checked_sub(1)?)
     }
 }
 
