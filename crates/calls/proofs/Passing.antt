@@ -21,11 +21,11 @@ use Rattle.hir.specs.Spans.{identifiers_in}
 use Rattle.reactive.specs.declared.row.Number.{Number}
 use Rattle.reactive.specs.declared.row.Number.TheVariants as numbers
 use Rattle.reactive.specs.Numbers.{scope_in, function_in}
-use Rattle.reactive.specs.Rows.{Reading, Row, rewound}
+use Rattle.reactive.specs.Rows.{Reading, Row, rewound, scope_rows}
 use Rattle.reactive.specs.Sound.{RowSound}
 use Rattle.walk.specs.Events.{Shallow}
 use Rattle.walk.proofs.Fitting.{each_imp}
-use Rattle.checks.specs.Rows.{sizes, run_refusal, scope_rows}
+use Rattle.checks.specs.Rows.{sizes, run_refusal}
 use Rattle.checks.specs.Sound.{SoundRow}
 use Rattle.checks.proofs.Sound as checked
 use Rattle.promote.specs.Growth.{Grows, none}
@@ -60,11 +60,9 @@ function_named (Some (numbers.Function x)) f e = cc
 
 row_sound : (m : Model) (r : Row) → SoundRow (sizes m) r → RowSound m r
 row_sound m r s = record {
-  names = record {
-    identifier = s.identifier;
-    scope = λ x e. s.scope x (scope_named r.number x e);
-    function = λ f e. s.function f (function_named r.number f e);
-  };
+  identifier = s.identifier;
+  scope = λ x e. s.scope x (scope_named r.number x e);
+  function = λ f e. s.function f (function_named r.number f e);
   operands = s.operands;
   marks = s.marks;
 }
@@ -74,11 +72,9 @@ row_kept m t k r s =
     let P : ℕ → Type 0 = λ n. Each (λ (i : IdentifierId). i.0 < n) r.operands in
     let Q : ℕ → Type 0 = λ n. Each (λ (i : IdentifierId). i.0 < n) r.marks in
     record {
-      names = record {
-        identifier = λ i e. let h = s.names.identifier i e in omega (arith, k.size);
-        scope = λ x e. let h = s.names.scope x e in let z = ap length k.scopes in omega arith;
-        function = λ f e. let h = s.names.function f e in let z = ap length k.functions in omega arith;
-      };
+      identifier = λ i e. let h = s.identifier i e in omega (arith, k.size);
+      scope = λ x e. let h = s.scope x e in let z = ap length k.scopes in omega arith;
+      function = λ f e. let h = s.function f e in let z = ap length k.functions in omega arith;
       operands = subst P (sym k.size) s.operands;
       marks = subst Q (sym k.size) s.marks;
     }
@@ -126,10 +122,6 @@ passable_grows b t ps rs p g =
       trail = omega (arith, p.trail, g.trail);
     }
 
-same_scope_rows : (rs : List Row) → collects.scope_rows rs ≡ scope_rows rs
-same_scope_rows [] = refl
-same_scope_rows (r ∷ rs) = ap (λ n. cond (eqb r.code 3) 1 0 + n) (same_scope_rows rs)
-
 scope_rows_few : (rs : List Row) → scope_rows rs ≤ length rs
 scope_rows_few [] = omega arith
 scope_rows_few (r ∷ rs) =
@@ -156,8 +148,8 @@ module _ (ps : Span) (rs : List Row) where
       subst P (sym e)
       (beginning.ready_begun (reset b) rs q.sound
       (λ d. ap (λ (w : Work). w.recorded) (blank_row b.notes d))
-      (omega (arith, f, same_scope_rows rs, q.trail))
-      (omega (arith, f, same_scope_rows rs, scope_rows_few rs, p.few))
+      (omega (arith, f, q.trail))
+      (omega (arith, f, scope_rows_few rs, p.few))
       p.rows)
 
   pub grows_collect : (t : Tables) → Passable t ps rs → Grows t (collects.collected t rs)

@@ -5,9 +5,9 @@ use Rattle.hir.specs.declared.refusal.Refusal.{Refusal}
 use Rattle.hir.specs.declared.refusal.Refusal.TheVariants as refusals
 use Rattle.hir.specs.Refusals.{refused_if}
 use Rattle.reactive.specs.declared.row.RowHead.{RowHead}
-use Rattle.reactive.specs.Rows.{Reading, head, upcoming, advanced, given, left, last_row, no_row}
+use Rattle.reactive.specs.Rows.{Reading, head, upcoming, advanced, given, left, last_row, no_row, scope_rows}
 use Rattle.reactive.proofs.Steps as steps
-use Rattle.checks.specs.Rows.{Sizes, Open, row_passes_limit, opened, shaped, wrong_fields, ended, rows_refusal, scope_rows}
+use Rattle.checks.specs.Rows.{Sizes, Open, row_passes_limit, opened, shaped, wrong_fields, ended, rows_refusal}
 
 -- the rows so far are sound: what is left decides
 pub record Seen (z : Sizes) (start s : Reading) (stack : Open) (seen scopes : ℕ) : Type 0 where

@@ -20,7 +20,7 @@ use Rattle.hir.specs.Spans.{part, ident, function, identifiers_in, functions_in}
 use Rattle.reactive.specs.declared.row.Number.{Number}
 use Rattle.reactive.specs.declared.row.Number.TheVariants as numbers
 use Rattle.reactive.specs.Codes.{has_scope}
-use Rattle.reactive.specs.Rows.{Row, head}
+use Rattle.reactive.specs.Rows.{Row, head, scope_rows}
 use Rattle.checks.specs.Tables as tables
 use Rattle.checks.specs.Rows as rows
 use Rattle.checks.specs.Rows.{Sizes, Open}
@@ -216,10 +216,10 @@ few_rows z rs e = let h = few_from z 0 [] rs (omega arith) e in omega arith
 pub tree_rows : (z : Sizes) (trail : ℕ) (rs : List Row) → rows.tree_refusal z trail rs ≡ None → rows.rows_refusal z 0 [] rs ≡ None
 tree_rows z trail rs e = (neither (rows.rows_refusal z 0 [] rs) _ e).0
 
-pub trail_enough : (z : Sizes) (trail : ℕ) (rs : List Row) → rows.tree_refusal z trail rs ≡ None → rows.scope_rows rs ≤ trail
+pub trail_enough : (z : Sizes) (trail : ℕ) (rs : List Row) → rows.tree_refusal z trail rs ≡ None → scope_rows rs ≤ trail
 trail_enough z trail rs e =
-    let h = neither (rows.rows_refusal z 0 [] rs) (refused_if (ltb trail (rows.scope_rows rs)) refusals.Scratch None) e in
-    ltb-false trail (rows.scope_rows rs) (passes (ltb trail (rows.scope_rows rs)) refusals.Scratch None h.1).0
+    let h = neither (rows.rows_refusal z 0 [] rs) (refused_if (ltb trail (scope_rows rs)) refusals.Scratch None) e in
+    ltb-false trail (scope_rows rs) (passes (ltb trail (scope_rows rs)) refusals.Scratch None h.1).0
 
 pub run_tables : (m : Model) (n : Notes) (ps : Span) (rs : List Row) → rows.run_refusal m n ps rs ≡ None → tables.tables_refusal m n ps ≡ None
 run_tables m n ps rs e = (neither (tables.tables_refusal m n ps) _ e).0

@@ -12,7 +12,7 @@ use Rattle.reactive.specs.declared.row.Number.{Number}
 use Rattle.reactive.specs.declared.row.Number.TheVariants as numbers
 use Rattle.reactive.specs.declared.row.RowHead.{RowHead}
 use Rattle.reactive.specs.Codes.{has_scope}
-use Rattle.reactive.specs.Rows.{Row, head}
+use Rattle.reactive.specs.Rows.{Row, head, scope_rows}
 use Rattle.checks.specs.declared.sizes.Sizes as own
 use Rattle.checks.specs.Grammar.{Slot, between, children, follow, lacking}
 use Rattle.checks.specs.Tables.{tables_refusal}
@@ -142,11 +142,6 @@ rows_refusal z seen os (r ∷ rs) =
     (refused_if (nat_lt 127 r.depth) refusals.Depth
     (shaped (opened os r.depth r.code)
     (λ open_now. refused_if (wrong_fields z r) refusals.Field (rows_refusal z (seen + 1) open_now rs))))
-
--- how many Scope rows there are
-abbrev pub scope_rows : List Row → ℕ
-scope_rows [] = 0
-scope_rows (r ∷ rs) = cond (r.code == 3) 1 0 + scope_rows rs
 
 -- the first fault of a tree: of its rows, and last of the trail rows for its scopes
 abbrev pub tree_refusal : Sizes → ℕ → List Row → Option Refusal

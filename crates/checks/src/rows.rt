@@ -2,8 +2,8 @@
 ghost use Rattle.std.specs.Prelude.{◌≡◌, [], length};
 ghost use Rattle.hir.specs.Environments.{model};
 ghost use Rattle.hir.specs.Refusals.{answered};
-ghost use Rattle.reactive.specs.Rows.{rewound};
-ghost use Rattle.checks.specs.Rows.{sizes, row_passes_limit, rows_refusal, scope_rows, tree_refusal};
+ghost use Rattle.reactive.specs.Rows.{rewound, scope_rows};
+ghost use Rattle.checks.specs.Rows.{sizes, row_passes_limit, rows_refusal, tree_refusal};
 
 use crate::fields::wrong_fields;
 use crate::sizes::Sizes;

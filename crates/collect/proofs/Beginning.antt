@@ -6,16 +6,14 @@ use Rattle.hir.specs.Environments.{Model}
 use Rattle.hir.specs.Lists.{Each}
 use Rattle.hir.specs.Scratches.{Tables, work_of}
 use Rattle.hir.specs.Sound.{Sound, Known}
-use Rattle.reactive.specs.declared.row.OpenRow.{OpenRow}
 use Rattle.reactive.specs.Codes.{uses_identifier, used_in, listed}
 use Rattle.reactive.specs.Numbers.{scope_in}
-use Rattle.reactive.specs.Open.{open_row}
-use Rattle.reactive.specs.Rows.{Row, head}
-use Rattle.reactive.specs.Sound.{OpenSound, RowSound}
+use Rattle.reactive.specs.Rows.{Row, head, scope_rows}
+use Rattle.reactive.specs.Sound.{RowSound}
 use Rattle.walk.specs.Events.{Event, entering, leaving, closing, staying, innermost_of, events, acts_of}
-use Rattle.walk.proofs.Fitting.{Within, each_acts, each_append, each_cond, each_map, each_listed}
+use Rattle.walk.proofs.Fitting.{each_acts, each_append, each_cond, each_map, each_listed}
 use Rattle.collect.specs.Links.{reach}
-use Rattle.collect.specs.Promotable.{Act, opens, shuts, prunes, sees, flags, leaf_acts, row_acts, acts, pass_acts, Fits, openings, scope_rows, Ready, begun}
+use Rattle.collect.specs.Promotable.{Act, opens, shuts, prunes, sees, flags, leaf_acts, row_acts, keeps, acts, pass_acts, Fits, openings, Ready, begun}
 use Rattle.collect.proofs.Keeping.{openings_append}
 
 -- ---- the acts of sound rows speak of what has a row
@@ -29,21 +27,18 @@ module _ (m : Model) where
   fits_used : (r : Row) → RowSound m r → Each (Fits m) (map sees (listed (used_in r.code r.identifier)))
   fits_used r h =
       cond_both (uses_identifier r.code) r.identifier None (λ o. Each (Fits m) (map sees (listed o)))
-      (λ e. each_map (Fits m) sees (Known m) (λ i k. k) (listed r.identifier) (each_listed (Known m) r.identifier h.names.identifier)) (λ e. tt)
+      (λ e. each_map (Fits m) sees (Known m) (λ i k. k) (listed r.identifier) (each_listed (Known m) r.identifier h.identifier)) (λ e. tt)
 
-  fits_enter : (p : Option OpenRow) (r : Row) → Within (OpenSound m) p → RowSound m r → Each (Fits m) (acts (entering p r))
-  fits_enter p r w h =
+  fits_enter : (p : Option Bool) (r : Row) → RowSound m r → Each (Fits m) (acts (entering p r))
+  fits_enter p r h =
       let In : ScopeId → Type 0 = λ s. s.0 < length m.scopes in
-      let scopes = each_listed In (scope_in r.number) h.names.scope in
+      let scopes = each_listed In (scope_in r.number) h.scope in
       each_cond (Fits m) (eqb r.code 3) _ _ (each_map (Fits m) opens In (λ s k. tt) (listed (scope_in r.number)) scopes)
       (each_cond (Fits m) (eqb r.code 4) _ _ (each_map (Fits m) prunes In (λ s k. k) (listed (scope_in r.number)) scopes)
       (each_cond (Fits m) (eqb r.code 5) _ _ (fits_leaf r h) (fits_used r h)))
 
-  fits_leave : (q : OpenRow) → OpenSound m q → Each (Fits m) (acts (leaving q))
-  fits_leave q h =
-      let Any : ScopeId → Type 0 = λ s. Unit {0} in
-      each_cond (Fits m) (eqb q.code 3) (map (λ s. shuts) (listed (scope_in q.number))) []
-      (each_map (Fits m) (λ s. shuts) Any (λ s k. tt) (listed (scope_in q.number)) (each_listed Any (scope_in q.number) (λ s k. tt))) tt
+  fits_leave : (active : Bool) → Each (Fits m) (acts (leaving active))
+  fits_leave active = each_cond (Fits m) active (shuts ∷ []) [] (tt, tt) tt
 
 -- ---- trail rows that they append
 
@@ -73,12 +68,10 @@ openings_row r =
     (cond_both (eqb r.code 4) _ _ (λ xs. openings xs ≡ 0) (λ e. no_openings prunes (λ s. refl) (listed (scope_in r.number)))
     (λ e. cond_both (eqb r.code 5) _ _ (λ xs. openings xs ≡ 0) (λ e. openings_leaf r) (λ e. no_openings sees (λ i. refl) (listed (used_in r.code r.identifier)))))
 
-openings_left : (r : OpenRow) → openings (acts (leaving r)) ≡ 0
-openings_left r =
-    cond_both (eqb r.code 3) (map (λ s. shuts) (listed (scope_in r.number))) [] (λ xs. openings xs ≡ 0)
-    (λ e. no_openings (λ s. shuts) (λ s. refl) (listed (scope_in r.number))) (λ e. refl)
+openings_left : (active : Bool) → openings (acts (leaving active)) ≡ 0
+openings_left active = cond_both active (shuts ∷ []) [] (λ xs. openings xs ≡ 0) (λ e. refl) (λ e. refl)
 
-openings_closing : (d : ℕ) (around : List OpenRow) (es : List Event) → openings (acts_of acts (closing d around ++ es)) ≡ openings (acts_of acts es)
+openings_closing : (d : ℕ) (around : List Bool) (es : List (Event Bool)) → openings (acts_of acts (closing d around ++ es)) ≡ openings (acts_of acts es)
 openings_closing d [] es = refl
 openings_closing d (r ∷ around) es =
     cond_both (leb d (length around)) (leaving r ∷ closing d around) [] (λ xs. openings (acts_of acts (xs ++ es)) ≡ openings (acts_of acts es))
@@ -87,15 +80,15 @@ openings_closing d (r ∷ around) es =
     omega (arith, a, openings_left r, openings_closing d around es))
     (λ e. refl)
 
-openings_events : (around : List OpenRow) (rs : List Row) → openings (acts_of acts (events around rs)) ≤ scope_rows rs
+openings_events : (around : List Bool) (rs : List Row) → openings (acts_of acts (events keeps around rs)) ≤ scope_rows rs
 openings_events around [] =
-    let e = ap (λ (es : List Event). openings (acts_of acts es)) (append-nil (closing 0 around)) in
+    let e = ap (λ (es : List (Event Bool)). openings (acts_of acts es)) (append-nil (closing 0 around)) in
     omega (arith, e, openings_closing 0 around [])
 openings_events around (r ∷ rs) =
-    let rest = events (open_row (head r) ∷ staying r.depth around) rs in
+    let rest = events keeps (keeps (head r) ∷ staying r.depth around) rs in
     let a = openings_closing r.depth around (entering (innermost_of (staying r.depth around)) r ∷ rest) in
     let b = openings_append (row_acts r) (acts_of acts rest) in
-    omega (arith, a, b, openings_row r, openings_events (open_row (head r) ∷ staying r.depth around) rs)
+    omega (arith, a, b, openings_row r, openings_events (keeps (head r) ∷ staying r.depth around) rs)
 
 -- a trail row is appended for a Scope row alone
 pub few_openings : (rs : List Row) → openings (pass_acts rs) ≤ scope_rows rs
@@ -106,7 +99,7 @@ ready_begun t rs sound fresh room low rows =
     record {
       sound = sound;
       linked = record { innermost = omega arith; down = λ j h. absurd (omega arith); recorded = λ d. subst (λ o. IfSome o (λ l. reach l ≤ 0)) (sym (fresh d)) tt };
-      fits = each_acts (RowSound t.env) (OpenSound t.env) (λ r k. k.names) acts (Fits t.env) (fits_enter t.env) (fits_leave t.env) [] rs tt rows;
+      fits = each_acts keeps (RowSound t.env) (λ q. Unit {0}) (λ r k. tt) acts (Fits t.env) (λ p r w. fits_enter t.env p r) (λ q k. fits_leave t.env q) [] rs tt rows;
       room = omega arith;
       low = omega arith;
     }

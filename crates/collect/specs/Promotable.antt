@@ -1,5 +1,5 @@
 -- The first pass on the tables: its acts and what each does. Assumes nothing.
-use Rattle.std.specs.Prelude.{ℕ, ◌+◌, ◌^◌, ◌<◌, ◌≤◌, Bool, true, false, cond, not, List, [], ◌∷◌, ◌++◌, Some, None, Option, IfSome, map, length, ◌==◌, slice_set}
+use Rattle.std.specs.Prelude.{ℕ, ◌+◌, ◌^◌, ◌<◌, ◌≤◌, Bool, true, false, cond, not, List, [], ◌∷◌, ◌++◌, Some, None, Option, IfSome, map, length, ◌==◌, slice_set, ◌&&◌, is_some}
 use Rattle.hir.specs.declared.ids.IdentifierId.{IdentifierId}
 use Rattle.hir.specs.declared.ids.ScopeId.{ScopeId}
 use Rattle.hir.specs.declared.scratch.Trail.{Trail}
@@ -11,6 +11,7 @@ use Rattle.hir.specs.Scratches.{Notes, Tables, both, work_of}
 use Rattle.hir.specs.Sound.{Sound, Known, KnownScope}
 use Rattle.hir.specs.Spans.{identifiers_in}
 use Rattle.reactive.specs.declared.code.Code.TheVariants as codes
+use Rattle.reactive.specs.declared.row.RowHead.{RowHead}
 use Rattle.reactive.specs.Codes.{code_number, used_in, listed}
 use Rattle.reactive.specs.Numbers.{scope_in}
 use Rattle.reactive.specs.Rows.{Row, is}
@@ -107,14 +108,18 @@ row_acts r =
     (cond (is codes.Pruned r) (map prunes (listed (scope_in r.number)))
     (cond (is codes.Leaf r) (leaf_acts r) (map sees (listed (used_in r.code r.identifier)))))
 
--- a Scope row that is left makes its scope inactive
-abbrev pub acts : Event → List Act
+-- of an open row it is kept whether it made a scope active
+abbrev pub keeps : RowHead → Bool
+keeps r = r.code == code_number codes.Scope && is_some (scope_in r.number)
+
+-- a row that made a scope active makes it inactive when it is left
+abbrev pub acts : Event Bool → List Act
 acts (entering p r) = row_acts r
-acts (leaving r) = cond (r.code == code_number codes.Scope) (map (λ s. shuts) (listed (scope_in r.number))) []
+acts (leaving active) = cond active (shuts ∷ []) []
 
 -- the acts of all rows
 abbrev pub pass_acts : List Row → List Act
-pass_acts rs = acts_of acts (events [] rs)
+pass_acts rs = acts_of acts (events keeps [] rs)
 
 -- an act speaks of what has a row
 abbrev pub Fits : Model → Act → Type 0
@@ -133,11 +138,6 @@ openings (prunes s ∷ more) = openings more
 openings (sees i ∷ more) = openings more
 openings (flags i ∷ more) = openings more
 
--- how many Scope rows there are
-abbrev pub scope_rows : List Row → ℕ
-scope_rows [] = 0
-scope_rows (r ∷ rs) = cond (r.code == 3) 1 0 + scope_rows rs
-
 -- every trail row in use leads to an earlier one, and every recorded link to a row in use
 pub record Linked (v : CollectPromotable) (n : Notes) : Type 0 where
   pub innermost : reach v.innermost ≤ v.used
@@ -153,7 +153,7 @@ pub record Ready (w : Whole CollectPromotable) (todo : List Act) : Type 0 where
   pub low : w.visitor.used + openings todo < 2 ^ 32
 
 -- what an event needs
-abbrev pub Readies : Whole CollectPromotable → Event → Type 0
+abbrev pub Readies : Whole CollectPromotable → Event Bool → Type 0
 Readies w e = Ready w (acts e)
 
 -- no scope is active, and no trail row in use

@@ -6,18 +6,19 @@ ghost use Rattle.std.specs.List.{fold};
 ghost use Rattle.hir.specs.Scratches.{tables, noted};
 ghost use Rattle.hir.specs.Sound.{Sound, Known};
 ghost use Rattle.reactive.specs.Rows.{rewound};
-ghost use Rattle.walk.specs.Events.{whole, Shallow, acting};
+ghost use Rattle.walk.specs.Events.{whole, Shallow, acting, entering};
 ghost use Rattle.collect.specs.Links.{Leads, reach};
-ghost use Rattle.collect.specs.Promotable.{prunes, sees, flags, recorded_at, escapes_at, trail_row, with_trail, around, at, does, leaf_acts, acts, Ready, Readies, pass_acts, begun, collected};
+ghost use Rattle.collect.specs.Promotable.{prunes, sees, flags, recorded_at, escapes_at, trail_row, with_trail, around, at, does, keeps, leaf_acts, acts, Ready, Readies, pass_acts, begun, collected};
 
 use crate::links::is_along;
+use fixed_stack::FixedStack;
 use hir::environment::Environment;
 use hir::ids::{IdentifierId, ScopeId};
 use hir::scratch::{Link, Scratch, Trail, Work};
 use reactive::code::Code;
 use reactive::given::GivenRow;
 use reactive::kind::Kind;
-use reactive::row::OpenRow;
+use reactive::row::RowHead;
 use reactive::source::TreeSource;
 use walk::visitor::Visitor;
 use walk::walking::walk;
@@ -163,17 +164,29 @@ impl CollectPromotable {
 }
 
 impl Visitor for CollectPromotable {
+    // Whether the row made a scope active.
+    type Kept = bool;
+
+    ghost keeps = { keeps };
+
     ghost can = { Readies };
 
     ghost after = { acting does acts };
+
+    fn keep(row: &RowHead) -> bool {
+        row.is(Code::Scope) && row.scope().is_some()
+    }
 
     fn enter<S: TreeSource>(
         &mut self,
         env: &mut Environment,
         scratch: &mut Scratch,
-        _parent: Option<OpenRow>,
+        _parent: Option<Self::Kept>,
         row: &GivenRow<S>,
-    ) {
+    )
+        requires { Readies (whole self.old (tables env.old scratch.old)) (entering _parent row.now) }
+        ensures { whole self.new (tables env.new scratch.new) ≡ acting does acts (whole self.old (tables env.old scratch.old)) (entering _parent row.now) }
+    {
         let head = row.head();
         match (Code::try_from(head.code), head.scope()) {
             (Ok(Code::Scope), Some(scope)) => self.open_scope(scratch, scope),
@@ -187,8 +200,8 @@ impl Visitor for CollectPromotable {
         }
     }
 
-    fn leave(&mut self, _env: &mut Environment, scratch: &mut Scratch, row: &OpenRow) {
-        if row.is(Code::Scope) && row.scope().is_some() {
+    fn leave(&mut self, _env: &mut Environment, scratch: &mut Scratch, active: Self::Kept) {
+        if active {
             self.shut_scope(scratch);
         }
     }
@@ -209,5 +222,5 @@ pub fn collect_promotable<S: TreeSource>(
         innermost: None,
         used: 0,
     };
-    walk(source, &mut visitor, env, scratch);
+    walk(source, &mut visitor, &mut FixedStack::new(), env, scratch);
 }

@@ -3,26 +3,26 @@ use Rattle.std.proofs.Common.{◌≡◌, ℕ, ◌<◌, true, eqb, List, [], ◌�
 use Rattle.std.proofs.lemmas.Bool.{and_parts, cond-true}
 use Rattle.hir.specs.declared.ids.FunctionId.{FunctionId}
 use Rattle.hir.specs.declared.ids.IdentifierId.{IdentifierId}
+use Rattle.hir.specs.declared.ids.ScopeId.{ScopeId}
 use Rattle.hir.specs.declared.tables.Reason.TheVariants as reasons
 use Rattle.hir.specs.Environments.{Model}
 use Rattle.hir.specs.Lists.{Each}
 use Rattle.std.specs.List.{fold}
 use Rattle.hir.specs.Scratches.{Tables}
-use Rattle.hir.specs.Sound.{Sound, Known, KnownFunction}
-use Rattle.reactive.specs.declared.row.OpenRow.{OpenRow}
+use Rattle.hir.specs.Sound.{Sound, Known, KnownFunction, KnownScope}
 use Rattle.reactive.specs.declared.row.RowHead.{RowHead}
 use Rattle.reactive.specs.Codes.{listed}
-use Rattle.reactive.specs.Numbers.{scope_in, function_in}
+use Rattle.reactive.specs.Numbers.{function_in}
 use Rattle.reactive.specs.Rows.{Row, head}
-use Rattle.reactive.specs.Sound.{OpenSound, RowSound}
+use Rattle.reactive.specs.Sound.{RowSound}
 use Rattle.walk.specs.Events.{entering, leaving}
 use Rattle.walk.proofs.Acting.{Splits, ready_onward, over_onward}
-use Rattle.walk.proofs.Fitting.{Within, each_acts, each_append, each_cond, each_map, each_listed}
+use Rattle.walk.proofs.Fitting.{each_acts, each_append, each_cond, each_map, each_listed}
 use Rattle.promote.specs.Growth.{Grows}
 use Rattle.promote.specs.Identifier.{is_unnamed}
 use Rattle.promote.proofs.Growing.{Kept, kept, grows_trans, grows_if, grows_each, sound_grows}
 use Rattle.promote.proofs.Passing as passing
-use Rattle.instances.specs.Instances.{Act, again, parameters, leaves, promote_instance, does, row_acts, acts, pass_acts, Fits, Ready}
+use Rattle.instances.specs.Instances.{Act, again, parameters, leaves, promote_instance, does, row_acts, keeps, acts, pass_acts, Fits, Ready}
 
 pub grows_instance : (t : Tables) (i : IdentifierId) → Sound t → Known t.env i → Grows t (promote_instance t i)
 grows_instance t i s h = grows_if _ reasons.SameDeclaration t i (λ e. (and_parts (is_unnamed t.env i) _ e).0) s h
@@ -58,7 +58,7 @@ pub grows_over : (t : Tables) (todo : List Act) → Ready t todo → Grows t (fo
 grows_over = passing.grows_over does Fits fits_kept grows_does
 
 -- a Leaf: its operands, and the parameters of its function
-module _ (p : Option OpenRow) (r : Row) (q : RowHead) (e : q ≡ head r) (is : true ≡ eqb q.code 5) where
+module _ (p : Option (Option ScopeId)) (r : Row) (q : RowHead) (e : q ≡ head r) (is : true ≡ eqb q.code 5) where
   leaf_acts : acts (entering p r) ≡ map again r.operands ++ map parameters (listed (function_in q.number))
   leaf_acts =
       (λ i. row_acts (sym e i).code (sym e i).identifier (sym e i).number r.operands)
@@ -87,18 +87,17 @@ module _ (m : Model) where
   fits_again : (is : List IdentifierId) → Each (Known m) is → Each (Fits m) (map again is)
   fits_again is h = each_map (Fits m) again (Known m) (λ x k. k) is h
 
-  fits_enter : (p : Option OpenRow) (r : Row) → Within (OpenSound m) p → RowSound m r → Each (Fits m) (acts (entering p r))
-  fits_enter p r w h =
+  fits_enter : (p : Option (Option ScopeId)) (r : Row) → RowSound m r → Each (Fits m) (acts (entering p r))
+  fits_enter p r h =
       each_cond (Fits m) (eqb r.code 5) _ _
       (each_append (Fits m) (map again r.operands) _ (fits_again r.operands h.operands)
-      (each_map (Fits m) parameters (KnownFunction m) (λ f k. k) (listed (function_in r.number)) (each_listed (KnownFunction m) (function_in r.number) h.names.function)))
-      (fits_again (listed r.identifier) (each_listed (Known m) r.identifier h.names.identifier))
+      (each_map (Fits m) parameters (KnownFunction m) (λ f k. k) (listed (function_in r.number)) (each_listed (KnownFunction m) (function_in r.number) h.function)))
+      (fits_again (listed r.identifier) (each_listed (Known m) r.identifier h.identifier))
 
-  fits_leave : (q : OpenRow) → OpenSound m q → Each (Fits m) (acts (leaving q))
-  fits_leave q h =
-      each_map (Fits m) leaves (λ s. s.0 < length m.scopes) (λ s k. k) (listed (scope_in q.number)) (each_listed (λ s. s.0 < length m.scopes) (scope_in q.number) h.scope)
+  fits_leave : (o : Option ScopeId) → ((s : ScopeId) → o ≡ Some s → KnownScope m s) → Each (Fits m) (acts (leaving o))
+  fits_leave o h = each_map (Fits m) leaves (KnownScope m) (λ s k. k) (listed o) (each_listed (KnownScope m) o h)
 
 -- the pass can go over sound rows
 pub ready_rows : (t : Tables) (rs : List Row) → Sound t → Each (RowSound t.env) rs → Ready t (pass_acts rs)
 ready_rows t rs s h =
-    record { sound = s; fits = each_acts (RowSound t.env) (OpenSound t.env) (λ r k. k.names) acts (Fits t.env) (fits_enter t.env) (fits_leave t.env) [] rs tt h }
+    record { sound = s; fits = each_acts keeps (RowSound t.env) (λ o. (s : ScopeId) → o ≡ Some s → KnownScope t.env s) (λ r k. k.scope) acts (Fits t.env) (λ p r w. fits_enter t.env p r) (fits_leave t.env) [] rs tt h }

@@ -13,6 +13,7 @@ use Rattle.hir.specs.Sound.{Known, KnownFunction, KnownScope}
 use Rattle.hir.specs.Spans.{identifiers_in}
 use Rattle.reactive.specs.declared.code.Code.TheVariants as codes
 use Rattle.reactive.specs.declared.row.Number.{Number}
+use Rattle.reactive.specs.declared.row.RowHead.{RowHead}
 use Rattle.reactive.specs.Codes.{code_number, listed}
 use Rattle.reactive.specs.Numbers.{scope_in, function_in}
 use Rattle.reactive.specs.Rows.{Row}
@@ -50,14 +51,18 @@ does t (leaves s) =
 abbrev pub row_acts : ℕ → Option IdentifierId → Option Number → List IdentifierId → List Act
 row_acts c i n os = cond (c == code_number codes.Leaf) (map again os ++ map parameters (listed (function_in n))) (map again (listed i))
 
+-- of an open row its scope is kept
+abbrev pub keeps : RowHead → Option ScopeId
+keeps r = scope_in r.number
+
 -- the acts of a row that is entered, or left: then its scope's lists are visited, if it has a scope
-abbrev pub acts : Event → List Act
+abbrev pub acts : Event (Option ScopeId) → List Act
 acts (entering p r) = row_acts r.code r.identifier r.number r.operands
-acts (leaving r) = map leaves (listed (scope_in r.number))
+acts (leaving s) = map leaves (listed s)
 
 -- the acts of all rows, in walk order
 abbrev pub pass_acts : List Row → List Act
-pass_acts rs = acts_of acts (events [] rs)
+pass_acts rs = acts_of acts (events keeps [] rs)
 
 -- an act speaks of what has a row
 abbrev pub Fits : Model → Act → Type 0
@@ -70,7 +75,7 @@ abbrev pub Ready : Tables → List Act → Type 0
 Ready = growth.Ready Fits
 
 -- the tables are such that the acts of an event can be done
-abbrev pub Readies : Whole PromoteAllInstances → Event → Type 0
+abbrev pub Readies : Whole PromoteAllInstances → Event (Option ScopeId) → Type 0
 Readies w e = Ready w.tables (acts e)
 
 -- own parameters are visited, and then the rows

@@ -6,9 +6,10 @@ ghost use Rattle.hir.specs.Scratches.{noted, tables};
 ghost use Rattle.hir.specs.Sound.{Sound, Known, KnownIn, KnownScope, KnownFunction};
 ghost use Rattle.hir.specs.Spans.{identifiers_in};
 ghost use Rattle.reactive.specs.Rows.{Reading, rewound};
-ghost use Rattle.walk.specs.Events.{Shallow, on_tables};
-ghost use Rattle.instances.specs.Instances.{promote_instance, is_left, does, Act, again, parameters, leaves, acts, Readies, Ready, pass_acts, promote_all_instances};
+ghost use Rattle.walk.specs.Events.{Shallow, on_tables, whole, entering};
+ghost use Rattle.instances.specs.Instances.{promote_instance, is_left, does, Act, again, parameters, leaves, keeps, acts, Readies, Ready, pass_acts, promote_all_instances};
 
+use fixed_stack::FixedStack;
 use hir::environment::Environment;
 use hir::ids::{FunctionId, IdentifierId, ScopeId};
 use hir::scratch::Scratch;
@@ -17,7 +18,7 @@ use hir::tables::{Identifier, Reason};
 use promote::identifier::promote_unnamed;
 use reactive::code::Code;
 use reactive::given::GivenRow;
-use reactive::row::OpenRow;
+use reactive::row::RowHead;
 use reactive::source::TreeSource;
 use walk::visitor::Visitor;
 use walk::walking::walk;
@@ -89,17 +90,29 @@ fn promote_all_instances_function(env: &mut Environment, scratch: &mut Scratch, 
 pub struct PromoteAllInstances;
 
 impl Visitor for PromoteAllInstances {
+    // The row's scope.
+    type Kept = Option<ScopeId>;
+
+    ghost keeps = { keeps };
+
     ghost can = { Readies };
 
     ghost after = { on_tables does acts };
+
+    fn keep(row: &RowHead) -> Option<ScopeId> {
+        row.scope()
+    }
 
     fn enter<S: TreeSource>(
         &mut self,
         env: &mut Environment,
         scratch: &mut Scratch,
-        _parent: Option<OpenRow>,
+        _parent: Option<Self::Kept>,
         row: &GivenRow<S>,
-    ) {
+    )
+        requires { Readies (whole self.old (tables env.old scratch.old)) (entering _parent row.now) }
+        ensures { whole self.new (tables env.new scratch.new) ≡ on_tables does acts (whole self.old (tables env.old scratch.old)) (entering _parent row.now) }
+    {
         let head = row.head();
         if head.is(Code::Leaf) {
             promote_all_instances_operands(env, scratch, row);
@@ -111,8 +124,8 @@ impl Visitor for PromoteAllInstances {
         }
     }
 
-    fn leave(&mut self, env: &mut Environment, scratch: &mut Scratch, row: &OpenRow) {
-        if let Some(scope) = row.scope() {
+    fn leave(&mut self, env: &mut Environment, scratch: &mut Scratch, scope: Self::Kept) {
+        if let Some(scope) = scope {
             promote_all_instances_scope_identifiers(env, scratch, scope);
         }
     }
@@ -157,5 +170,5 @@ pub fn promote_all_instances<S: TreeSource>(
     }
     promote_all_instances_list(env, scratch, parameters);
     let mut visitor = PromoteAllInstances;
-    walk(source, &mut visitor, env, scratch);
+    walk(source, &mut visitor, &mut FixedStack::new(), env, scratch);
 }

@@ -1,5 +1,5 @@
 -- What the third pass keeps. Assumes nothing.
-use Rattle.std.proofs.Common.{◌≡◌, ℕ, ◌+◌, ◌≤◌, Bool, cond, eqb, leb, List, [], ◌∷◌, ◌++◌, map, length, Some, None, Option, sym, refl, ap, ◌∙◌, ⊎_elim, arith, length-set}
+use Rattle.std.proofs.Common.{◌≡◌, ℕ, ◌+◌, ◌≤◌, Bool, cond, eqb, leb, List, [], ◌∷◌, ◌++◌, map, length, Some, None, Option, sym, refl, ap, ◌∙◌, subst, ⊎_elim, arith, length-set}
 use Rattle.std.proofs.lemmas.Bool.{and_parts, cases_Bool, cond_both, cond-true, cond-false}
 use Rattle.hir.specs.declared.ids.IdentifierId.{IdentifierId}
 use Rattle.hir.specs.declared.scratch.Work.{Work}
@@ -9,17 +9,16 @@ use Rattle.hir.specs.Lists.{Each}
 use Rattle.std.specs.List.{fold}
 use Rattle.hir.specs.Scratches.{Tables}
 use Rattle.hir.specs.Sound.{Sound, Known}
-use Rattle.reactive.specs.declared.row.OpenRow.{OpenRow}
 use Rattle.reactive.specs.Codes.{listed, used_in, uses_identifier}
-use Rattle.reactive.specs.Open.{open_row}
 use Rattle.reactive.specs.Rows.{Row, head}
-use Rattle.reactive.specs.Sound.{OpenSound, RowSound}
+use Rattle.reactive.specs.Sound.{RowSound}
 use Rattle.walk.specs.Events.{Event, entering, leaving, closing, staying, innermost_of, events, acts_of}
 use Rattle.walk.proofs.Acting.{Splits, ready_onward, over_onward}
 use Rattle.promote.specs.Growth.{Grows, none}
 use Rattle.promote.proofs.Growing.{Kept, kept, grows_none, grows_trans, grows_if, sound_grows}
 use Rattle.walk.proofs.Fitting.{Within, each_acts, each_append, each_cond, each_front, each_map, each_listed}
-use Rattle.interposed.specs.Interposed.{fix_acts, marks_acts, value_acts, end_acts, leaf_acts, instruction_in, under_acts, acts, begun, pass_acts}
+use Rattle.interposed.specs.declared.interposed.Instruction.{Instruction}
+use Rattle.interposed.specs.Interposed.{fix_acts, marks_acts, value_acts, end_acts, leaf_acts, keeps, under_acts, acts, begun, pass_acts}
 use Rattle.interposed.specs.Kinds.{is_load, is_property_load, is_global_load, is_barrier, fixes_marks, may_raise}
 use Rattle.interposed.specs.Acts.{State, Act, uses, fixes, loads, takes, global, barrier, tracks, epoch, noting, nameless, found, raised, does, KnownIf, Fits, barriers, Ready}
 
@@ -166,17 +165,23 @@ module _ (m : Model) where
   known_if None h = tt
   known_if (Some i) h = h i refl
 
-  instruction_is : (p : Option OpenRow) (q : OpenRow) → instruction_in p ≡ Some q → p ≡ Some q
-  instruction_is None q e = e
-  instruction_is (Some p) q e =
-      ⊎_elim
-      (λ b. let f : Some p ≡ Some q = sym (cond-true (eqb p.code 2) (Some p) None b) ∙ e in f)
-      (λ b. absurd (let f : None ≡ Some q = sym (cond-false (eqb p.code 2) (Some p) None b) ∙ e in let z : ◌≡◌ {A = ℕ} 0 1 = cc in omega arith))
-      (cases_Bool (eqb p.code 2))
+  -- the lvalue of an Instruction has a row
+  Lvalue : Option Instruction → Type 0
+  Lvalue o = (q : Instruction) → o ≡ Some q → KnownIf m q.lvalue
 
-  fits_under : (o : Option OpenRow) (r : Row) → ((q : OpenRow) → o ≡ Some q → OpenSound m q) → RowSound m r → Each (Fits m) (under_acts o r.kind r.mode r.marks r.operands)
+  fits_under : (p : Option (Option Instruction)) (r : Row) → Within Lvalue p → RowSound m r → Each (Fits m) (under_acts p r.kind r.mode r.marks r.operands)
+  unfolding Lvalue
   fits_under None r w h = fits_uses r.operands h.operands
-  fits_under (Some p) r w h = fits_leaf p.identifier r.kind r.mode r.marks r.operands (known_if p.identifier (w p refl).identifier) h.marks h.operands
+  fits_under (Some None) r w h = fits_uses r.operands h.operands
+  fits_under (Some (Some q)) r w h = fits_leaf q.lvalue r.kind r.mode r.marks r.operands (w (Some q) refl q refl) h.marks h.operands
+
+  lvalue_known : (r : Row) → RowSound m r → Lvalue (keeps (head r))
+  unfolding Lvalue
+  lvalue_known r h q e =
+      ⊎_elim
+      (λ b. let f : ◌≡◌ {A = Instruction} (record { lvalue = r.identifier }) q = cc in subst (λ (x : Instruction). KnownIf m x.lvalue) f (known_if r.identifier h.identifier))
+      (λ b. absurd (let f : ◌≡◌ {A = Option Instruction} None (Some q) = sym (cond-false _ _ _ b) ∙ e in let z : ◌≡◌ {A = ℕ} 0 1 = cc in omega arith))
+      (cases_Bool (eqb r.code 2))
 
   used_is : (c : ℕ) (o : Option IdentifierId) (i : IdentifierId) → used_in c o ≡ Some i → o ≡ Some i
   used_is c o i e =
@@ -185,16 +190,16 @@ module _ (m : Model) where
       (λ b. absurd (let f : None ≡ Some i = sym (cond-false (uses_identifier c) o None b) ∙ e in let z : ◌≡◌ {A = ℕ} 0 1 = cc in omega arith))
       (cases_Bool (uses_identifier c))
 
-  fits_row : (p : Option OpenRow) (r : Row) → Within (OpenSound m) p → RowSound m r → Each (Fits m) (acts (entering p r))
+  fits_row : (p : Option (Option Instruction)) (r : Row) → Within Lvalue p → RowSound m r → Each (Fits m) (acts (entering p r))
   fits_row p r w h =
       each_cond (Fits m) (eqb r.code 5) _ _
-      (fits_under (instruction_in p) r (λ q e. w q (instruction_is p q e)) h)
-      (fits_uses (listed (used_in r.code r.identifier)) (each_listed (Known m) (used_in r.code r.identifier) (λ i e. h.names.identifier i (used_is r.code r.identifier i e))))
+      (fits_under p r w h)
+      (fits_uses (listed (used_in r.code r.identifier)) (each_listed (Known m) (used_in r.code r.identifier) (λ i e. h.identifier i (used_is r.code r.identifier i e))))
 
   fits_rows : (ps : List IdentifierId) (rs : List Row) → Each (Known m) ps → Each (RowSound m) rs → Each (Fits m) (pass_acts ps rs)
   fits_rows ps rs hp h =
       each_append (Fits m) (map fixes ps) _ (each_map (Fits m) fixes (Known m) (λ x k. k) ps hp)
-      (each_acts (RowSound m) (OpenSound m) (λ r k. k.names) acts (Fits m) fits_row (λ q k. tt) [] rs tt h)
+      (each_acts keeps (RowSound m) Lvalue lvalue_known acts (Fits m) fits_row (λ q k. tt) [] rs tt h)
 
 -- a row raises at most one barrier
 none_fixes : (is : List IdentifierId) → barriers (map fixes is) ≡ 0
@@ -233,38 +238,39 @@ few_leaf l k mode ms os =
     let i = few_cond 0 (is_barrier k) (map tracks (listed l)) [] (omega (arith, none_tracks (listed l))) (omega arith) in
     omega (arith, a, b, c, d, e, f, g, h, i)
 
-few_under : (o : Option OpenRow) (k mode : ℕ) (ms os : List IdentifierId) → barriers (under_acts o k mode ms os) ≤ 1
+few_under : (o : Option (Option Instruction)) (k mode : ℕ) (ms os : List IdentifierId) → barriers (under_acts o k mode ms os) ≤ 1
 few_under None k mode ms os = omega (arith, none_uses os)
-few_under (Some p) k mode ms os = few_leaf p.identifier k mode ms os
+few_under (Some None) k mode ms os = omega (arith, none_uses os)
+few_under (Some (Some q)) k mode ms os = few_leaf q.lvalue k mode ms os
 
-few_row : (p : Option OpenRow) (r : Row) → barriers (acts (entering p r)) ≤ 1
+few_row : (p : Option (Option Instruction)) (r : Row) → barriers (acts (entering p r)) ≤ 1
 few_row p r =
-    few_cond 1 (eqb r.code 5) _ _ (few_under (instruction_in p) r.kind r.mode r.marks r.operands)
+    few_cond 1 (eqb r.code 5) _ _ (few_under p r.kind r.mode r.marks r.operands)
     (omega (arith, none_uses (listed (used_in r.code r.identifier))))
 
-acts_both : (xs ys : List Event) → barriers (acts_of acts (xs ++ ys)) ≡ barriers (acts_of acts xs) + barriers (acts_of acts ys)
+acts_both : (xs ys : List (Event (Option Instruction))) → barriers (acts_of acts (xs ++ ys)) ≡ barriers (acts_of acts xs) + barriers (acts_of acts ys)
 acts_both [] ys = omega arith
 acts_both (x ∷ xs) ys =
     let a = barriers_append (acts x) (acts_of acts (xs ++ ys)) in
     let b = barriers_append (acts x) (acts_of acts xs) in
     omega (arith, a, b, acts_both xs ys)
 
-none_closing : (d : ℕ) (around : List OpenRow) → barriers (acts_of acts (closing d around)) ≤ 0
+none_closing : (d : ℕ) (around : List (Option Instruction)) → barriers (acts_of acts (closing d around)) ≤ 0
 none_closing d [] = omega arith
 none_closing d (r ∷ around) =
     cond_both (leb d (length around)) (leaving r ∷ closing d around) [] (λ es. barriers (acts_of acts es) ≤ 0) (λ e. none_closing d around) (λ e. omega arith)
 
-few_events : (around : List OpenRow) (rs : List Row) → barriers (acts_of acts (events around rs)) ≤ length rs
+few_events : (around : List (Option Instruction)) (rs : List Row) → barriers (acts_of acts (events keeps around rs)) ≤ length rs
 few_events around [] = omega (arith, none_closing 0 around)
 few_events around (r ∷ rs) =
     let p = innermost_of (staying r.depth around) in
-    let on = events (open_row (head r) ∷ staying r.depth around) rs in
+    let on = events keeps (keeps (head r) ∷ staying r.depth around) rs in
     let a = acts_both (closing r.depth around) (entering p r ∷ on) in
     let b = barriers_append (acts (entering p r)) (acts_of acts on) in
-    omega (arith, a, b, none_closing r.depth around, few_row p r, few_events (open_row (head r) ∷ staying r.depth around) rs)
+    omega (arith, a, b, none_closing r.depth around, few_row p r, few_events (keeps (head r) ∷ staying r.depth around) rs)
 
 -- the pass can go over sound rows
 pub ready_begun : (t : Tables) (ps : List IdentifierId) (rs : List Row) → Sound t → Each (Known t.env) ps → Each (RowSound t.env) rs → length rs ≤ 262144 → Ready (begun t) (pass_acts ps rs)
 ready_begun t ps rs s hp h few =
-    let a = barriers_append (map fixes ps) (acts_of acts (events [] rs)) in
+    let a = barriers_append (map fixes ps) (acts_of acts (events keeps [] rs)) in
     record { sound = s; fits = fits_rows t.env ps rs hp h; low = let b = few_events [] rs in let c = none_fixes ps in omega (arith, a, b, c) }

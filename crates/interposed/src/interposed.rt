@@ -4,19 +4,20 @@ ghost use Rattle.std.specs.List.{fold};
 ghost use Rattle.hir.specs.Scratches.{tables};
 ghost use Rattle.hir.specs.Spans.{identifiers_in};
 ghost use Rattle.reactive.specs.Rows.{Reading, rewound};
-ghost use Rattle.walk.specs.Events.{whole, acting, Shallow};
+ghost use Rattle.walk.specs.Events.{whole, acting, Shallow, entering};
 ghost use Rattle.interposed.specs.Acts.{Act, uses, fixes, does, Ready};
-ghost use Rattle.interposed.specs.Interposed.{fix_acts, mark_acts, value_acts, end_acts, leaf_acts, instruction_in, acts, Readies, begun, pass_acts, promote_interposed};
+ghost use Rattle.interposed.specs.Interposed.{fix_acts, mark_acts, value_acts, end_acts, leaf_acts, keeps, acts, Readies, begun, pass_acts, promote_interposed};
 
 use crate::acts::PromoteInterposed;
 use crate::kinds::{fixes_marks, is_barrier, is_global_load, is_load, is_property_load, may_raise};
+use fixed_stack::FixedStack;
 use hir::environment::Environment;
 use hir::ids::IdentifierId;
 use hir::scratch::Scratch;
 use hir::span::Span;
 use reactive::code::Code;
 use reactive::given::GivenRow;
-use reactive::row::{OpenRow, RowHead};
+use reactive::row::RowHead;
 use reactive::source::TreeSource;
 use walk::visitor::Visitor;
 use walk::walking::walk;
@@ -139,42 +140,51 @@ impl PromoteInterposed {
     }
 }
 
-// The parent, where that is an Instruction.
-fn as_instruction(parent: Option<OpenRow>) -> Option<OpenRow>
-    ensures { result ≡ instruction_in parent }
-{
-    parent.filter(|row| row.is(Code::Instruction))
+// An Instruction that is open.
+#[derive(Clone, Copy)]
+pub struct Instruction {
+    pub lvalue: Option<IdentifierId>,
 }
 
 impl Visitor for PromoteInterposed {
+    type Kept = Option<Instruction>;
+
+    ghost keeps = { keeps };
+
     ghost can = { Readies };
 
     ghost after = { acting does acts };
+
+    fn keep(row: &RowHead) -> Option<Instruction> {
+        row.is(Code::Instruction).then_some(Instruction {
+            lvalue: row.identifier,
+        })
+    }
 
     fn enter<S: TreeSource>(
         &mut self,
         env: &mut Environment,
         scratch: &mut Scratch,
-        parent: Option<OpenRow>,
+        parent: Option<Self::Kept>,
         row: &GivenRow<S>,
-    ) {
+    )
+        requires { Readies (whole self.old (tables env.old scratch.old)) (entering parent row.now) }
+        ensures { whole self.new (tables env.new scratch.new) ≡ acting does acts (whole self.old (tables env.old scratch.old)) (entering parent row.now) }
+    {
         let head = row.head();
         if head.is(Code::Leaf) {
-            match as_instruction(parent) {
-                Some(instruction) => self.promote_interposed_instruction(
-                    env,
-                    scratch,
-                    instruction.identifier,
-                    row,
-                ),
-                None => self.use_operands(env, scratch, row),
+            match parent {
+                Some(Some(instruction)) => {
+                    self.promote_interposed_instruction(env, scratch, instruction.lvalue, row)
+                }
+                _ => self.use_operands(env, scratch, row),
             }
         } else if let Some(id) = head.used() {
             self.use_place(env, scratch, id);
         }
     }
 
-    fn leave(&mut self, _env: &mut Environment, _scratch: &mut Scratch, _row: &OpenRow) {}
+    fn leave(&mut self, _env: &mut Environment, _scratch: &mut Scratch, _row: Self::Kept) {}
 }
 
 // Own parameters are constant from the start. Every pass loops over its lists itself: a rule of this project.
@@ -206,5 +216,5 @@ pub fn promote_interposed<S: TreeSource>(
 {
     let mut visitor = PromoteInterposed { epoch: 1 };
     fix_parameters(&visitor, env, scratch, parameters);
-    walk(source, &mut visitor, env, scratch);
+    walk(source, &mut visitor, &mut FixedStack::new(), env, scratch);
 }

@@ -17,12 +17,12 @@ use Rattle.reactive.specs.declared.row.Number.{Number}
 use Rattle.reactive.specs.declared.row.Number.TheVariants as numbers
 use Rattle.reactive.specs.Numbers.{scope_in, function_in}
 use Rattle.reactive.specs.Rows.{Row}
-use Rattle.reactive.specs.Sound.{OpenSound, RowSound}
+use Rattle.reactive.specs.Sound.{RowSound}
 use Rattle.walk.proofs.Acting.{Splits}
 use Rattle.walk.proofs.Fitting.{each_acts, each_cond}
 use Rattle.promote.specs.Growth.{Grows, none}
 use Rattle.promote.specs.Identifier.{promoted, promote_unnamed, is_unnamed}
-use Rattle.promote.specs.Temporaries.{Act, scope, pruned, inner, promote_escaped, is_marked, with_mark, entered, nested_in, visit, unmarked, unvisited, does, row_acts, acts, pass_acts, Fits, Ready}
+use Rattle.promote.specs.Temporaries.{Act, scope, pruned, inner, promote_escaped, is_marked, with_mark, entered, nested_in, visit, unmarked, unvisited, does, row_acts, keeps, acts, pass_acts, Fits, Ready}
 use Rattle.promote.proofs.Passing as passing
 use Rattle.promote.proofs.Growing.{Kept, kept, grows_none, grows_trans, grows_if, grows_unnamed, grows_each, sound_grows}
 
@@ -205,7 +205,7 @@ pub ready_rows : (t : Tables) (rs : List Row) → Sound t → Each (RowSound t.e
 ready_rows t rs s h =
     record {
       sound = s;
-      fits = each_acts (RowSound t.env) (OpenSound t.env) (λ r k. k.names) acts (Fits t.env) (λ p r w k. fits_number t.env r.code r.number k.names.scope k.names.function) (λ q k. tt) [] rs tt h;
+      fits = each_acts keeps (RowSound t.env) (λ q. Unit {0}) (λ r k. tt) acts (Fits t.env) (λ p r w k. fits_number t.env r.code r.number k.scope k.function) (λ q k. tt) [] rs tt h;
     }
 
 -- the pass can go on after own parameters are named

@@ -12,6 +12,7 @@ use Rattle.hir.specs.Sound.{KnownFunction, KnownScope}
 use Rattle.hir.specs.Spans.{identifiers_in, functions_in}
 use Rattle.reactive.specs.declared.code.Code.TheVariants as codes
 use Rattle.reactive.specs.declared.row.Number.{Number}
+use Rattle.reactive.specs.declared.row.RowHead.{RowHead}
 use Rattle.reactive.specs.declared.row.Number.TheVariants as numbers
 use Rattle.reactive.specs.Codes.{code_number}
 use Rattle.reactive.specs.Rows.{Row}
@@ -76,14 +77,18 @@ row_acts c (Some (numbers.Scope s)) =
     cond (c == code_number codes.Scope) (scope s ∷ []) (cond (c == code_number codes.Pruned) (pruned s ∷ []) [])
 row_acts c (Some (numbers.Function f)) = inner f ∷ []
 
+-- nothing is kept of an open row
+abbrev pub keeps : RowHead → Unit {0}
+keeps r = tt
+
 -- the act of a row that is entered; a row that is left has none
-abbrev pub acts : Event → List Act
+abbrev pub acts : Event (Unit {0}) → List Act
 acts (entering p r) = row_acts r.code r.number
 acts (leaving r) = []
 
 -- the acts of all rows, in walk order
 abbrev pub pass_acts : List Row → List Act
-pass_acts rs = acts_of acts (events [] rs)
+pass_acts rs = acts_of acts (events keeps [] rs)
 
 -- an act speaks of a scope or a function that has a row
 abbrev pub Fits : Model → Act → Type 0
@@ -96,7 +101,7 @@ abbrev pub Ready : Tables → List Act → Type 0
 Ready = growth.Ready Fits
 
 -- the tables are such that the acts of an event can be done
-abbrev pub Readies : Whole PromoteTemporaries → Event → Type 0
+abbrev pub Readies : Whole PromoteTemporaries → Event (Unit {0}) → Type 0
 Readies w e = Ready w.tables (acts e)
 
 -- own parameters are named, and then what the rows take

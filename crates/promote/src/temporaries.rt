@@ -6,10 +6,11 @@ ghost use Rattle.hir.specs.Scratches.{tables};
 ghost use Rattle.hir.specs.Sound.{Sound, Known, KnownIn, KnownScope, KnownFunction};
 ghost use Rattle.hir.specs.Spans.{identifiers_in};
 ghost use Rattle.reactive.specs.Rows.{Reading, rewound};
-ghost use Rattle.walk.specs.Events.{Shallow, on_tables};
-ghost use Rattle.promote.specs.Temporaries.{promote_escaped, visit, unvisited, does, Act, scope, pruned, inner, acts, Readies, Ready, pass_acts, promote_temporaries};
+ghost use Rattle.walk.specs.Events.{Shallow, on_tables, whole, entering};
+ghost use Rattle.promote.specs.Temporaries.{keeps, promote_escaped, visit, unvisited, does, Act, scope, pruned, inner, acts, Readies, Ready, pass_acts, promote_temporaries};
 
 use crate::identifier::{promote_list, promote_unnamed};
+use fixed_stack::FixedStack;
 use hir::environment::Environment;
 use hir::ids::{FunctionId, IdentifierId, ScopeId};
 use hir::scratch::Scratch;
@@ -17,7 +18,7 @@ use hir::span::Span;
 use hir::tables::Reason;
 use reactive::code::Code;
 use reactive::given::GivenRow;
-use reactive::row::{Number, OpenRow};
+use reactive::row::{Number, RowHead};
 use reactive::source::TreeSource;
 use walk::visitor::Visitor;
 use walk::walking::walk;
@@ -89,17 +90,26 @@ fn promote_inner_function(env: &mut Environment, scratch: &mut Scratch, id: Func
 pub struct PromoteTemporaries;
 
 impl Visitor for PromoteTemporaries {
+    type Kept = ();
+
+    ghost keeps = { keeps };
+
     ghost can = { Readies };
 
     ghost after = { on_tables does acts };
+
+    fn keep(_row: &RowHead) {}
 
     fn enter<S: TreeSource>(
         &mut self,
         env: &mut Environment,
         scratch: &mut Scratch,
-        _parent: Option<OpenRow>,
+        _parent: Option<Self::Kept>,
         row: &GivenRow<S>,
-    ) {
+    )
+        requires { Readies (whole self.old (tables env.old scratch.old)) (entering _parent row.now) }
+        ensures { whole self.new (tables env.new scratch.new) ≡ on_tables does acts (whole self.old (tables env.old scratch.old)) (entering _parent row.now) }
+    {
         let row = row.head();
         match (Code::try_from(row.code), row.number) {
             (Ok(Code::Scope), Some(Number::Scope(scope))) => promote_scope(env, scratch, scope),
@@ -111,7 +121,7 @@ impl Visitor for PromoteTemporaries {
         }
     }
 
-    fn leave(&mut self, _env: &mut Environment, _scratch: &mut Scratch, _row: &OpenRow) {}
+    fn leave(&mut self, _env: &mut Environment, _scratch: &mut Scratch, _row: Self::Kept) {}
 }
 
 // Names own parameters, and then by row what scopes take, what escaped, and inner parameters.
@@ -134,5 +144,5 @@ pub fn promote_temporaries<S: TreeSource>(
         return;
     }
     let mut visitor = PromoteTemporaries;
-    walk(source, &mut visitor, env, scratch);
+    walk(source, &mut visitor, &mut FixedStack::new(), env, scratch);
 }

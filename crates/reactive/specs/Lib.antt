@@ -1,7 +1,6 @@
 pub mod Codes
 pub mod Numbers
 pub mod Rows
-pub mod Open
 pub mod Tables
 pub mod Sound
 pub mod Kinds

@@ -1,5 +1,5 @@
 -- What a tree source stands for. Assumes nothing.
-use Rattle.std.specs.Prelude.{ℕ, zero, suc, ◌+◌, Bool, cond, List, [], length, drop, Some, None, Option, ◌==◌, nat_lt}
+use Rattle.std.specs.Prelude.{ℕ, zero, suc, ◌+◌, Bool, cond, List, [], ◌∷◌, length, drop, Some, None, Option, ◌==◌, nat_lt}
 use Rattle.std.specs.Option.{option_map, unwrap_or}
 use Rattle.std.specs.List.{slice_get}
 use Rattle.hir.specs.declared.ids.IdentifierId.{IdentifierId}
@@ -35,6 +35,11 @@ head r = record {
 -- the row has this code
 abbrev pub is : Code → Row → Bool
 is c r = r.code == code_number c
+
+-- how many Scope rows there are
+abbrev pub scope_rows : List Row → ℕ
+scope_rows [] = 0
+scope_rows (r ∷ rs) = cond (r.code == 3) 1 0 + scope_rows rs
 
 -- a fixed list of rows, and how many of them were given since the start
 pub record Reading : Type 0 where

@@ -6,19 +6,13 @@ use Rattle.hir.specs.declared.ids.ScopeId.{ScopeId}
 use Rattle.hir.specs.Environments.{Model}
 use Rattle.hir.specs.Lists.{Each}
 use Rattle.hir.specs.Sound.{Known, KnownFunction, KnownScope}
-use Rattle.reactive.specs.declared.row.OpenRow.{OpenRow}
 use Rattle.reactive.specs.Numbers.{scope_in, function_in}
-use Rattle.reactive.specs.Open.{open_row}
-use Rattle.reactive.specs.Rows.{Row, head}
-
--- what a row names besides its lists has a row
-pub record OpenSound (m : Model) (h : OpenRow) : Type 0 where
-  pub identifier : (i : IdentifierId) → h.identifier ≡ Some i → Known m i
-  pub scope : (s : ScopeId) → scope_in h.number ≡ Some s → KnownScope m s
-  pub function : (f : FunctionId) → function_in h.number ≡ Some f → KnownFunction m f
+use Rattle.reactive.specs.Rows.{Row}
 
 -- whatever a row names, its operands and marks among it, has a row in the tables
 pub record RowSound (m : Model) (r : Row) : Type 0 where
-  pub names : OpenSound m (open_row (head r))
+  pub identifier : (i : IdentifierId) → r.identifier ≡ Some i → Known m i
+  pub scope : (s : ScopeId) → scope_in r.number ≡ Some s → KnownScope m s
+  pub function : (f : FunctionId) → function_in r.number ≡ Some f → KnownFunction m f
   pub operands : Each (Known m) r.operands
   pub marks : Each (Known m) r.marks

@@ -2,7 +2,6 @@ ghost use Rattle.std.specs.Prelude.{◌≡◌, ◌==◌, Some};
 ghost use Rattle.reactive.specs.Codes.{code_number, used_in};
 ghost use Rattle.reactive.specs.Kinds.{kind_number};
 ghost use Rattle.reactive.specs.Numbers.{scope_in, function_in};
-ghost use Rattle.reactive.specs.Open.{open_row};
 
 use crate::code::Code;
 use crate::kind::Kind;
@@ -25,29 +24,15 @@ impl Number {
             Number::Function(_) => None,
         }
     }
-}
 
-// What of a row is asked for while it is open: a walk keeps no more of it, so that little is copied.
-#[derive(Clone, Copy, Default)]
-pub struct OpenRow {
-    pub code: u8,
-    pub identifier: Option<IdentifierId>,
-    pub number: Option<Number>,
-}
-
-impl OpenRow {
-    // Whether the row has this code.
-    pub fn is(&self, code: Code) -> bool
-        ensures { result ≡ (self.now.code == code_number code) }
+    // The function, where it is one.
+    fn function(self) -> Option<FunctionId>
+        ensures { result ≡ function_in (Some self) }
     {
-        self.code == code as u8
-    }
-
-    // The scope that the row names.
-    pub fn scope(&self) -> Option<ScopeId>
-        ensures { result ≡ scope_in self.now.number }
-    {
-        self.number?.scope()
+        match self {
+            Number::Scope(_) => None,
+            Number::Function(function) => Some(function),
+        }
     }
 }
 
@@ -69,18 +54,7 @@ impl RowHead {
     pub fn is(&self, code: Code) -> bool
         ensures { result ≡ (self.now.code == code_number code) }
     {
-        self.opened().is(code)
-    }
-
-    // What is kept of it while it is open.
-    pub fn opened(&self) -> OpenRow
-        ensures { result ≡ open_row self.now }
-    {
-        OpenRow {
-            code: self.code,
-            identifier: self.identifier,
-            number: self.number,
-        }
+        self.code == code as u8
     }
 
     // Whether the row has this kind.
@@ -105,16 +79,13 @@ impl RowHead {
     pub fn scope(&self) -> Option<ScopeId>
         ensures { result ≡ scope_in self.now.number }
     {
-        self.opened().scope()
+        self.number?.scope()
     }
 
     // The function that the row names.
     pub fn function(&self) -> Option<FunctionId>
         ensures { result ≡ function_in self.now.number }
     {
-        match self.number {
-            Some(Number::Function(function)) => Some(function),
-            _ => None,
-        }
+        self.number?.function()
     }
 }

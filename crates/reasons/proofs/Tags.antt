@@ -5,10 +5,8 @@ use Rattle.std.proofs.lemmas.Bool.{cases_Bool, cond-true, cond-false, eqb-true, 
 use Rattle.hir.specs.Environments.{Model, declaration_of}
 use Rattle.std.specs.List.{fold, list_any}
 use Rattle.reactive.specs.declared.code.Code.TheVariants as codes
-use Rattle.reactive.specs.declared.row.OpenRow.{OpenRow}
 use Rattle.reactive.specs.Codes.{used_in, listed}
 use Rattle.reactive.specs.Numbers.{scope_in}
-use Rattle.reactive.specs.Open.{open_row}
 use Rattle.reactive.specs.Rows.{Row, head, is}
 use Rattle.walk.specs.Events.{Event, leaving, closing, staying, events, acts_of}
 use Rattle.collect.specs.Promotable as table
@@ -90,15 +88,12 @@ module _ (m : Model) (static : Static m) (d : ℕ) where
       (cases_Bool (is codes.Pruned r)))
       (cases_Bool (is codes.Scope r))
 
-  of_leaving : (r : OpenRow) → list_any flagged (table.acts (leaving r)) ≡ false
+  of_leaving : (active : Bool) → list_any flagged (table.acts (leaving active)) ≡ false
   unfolding flagged
-  of_leaving r =
-      ⊎_elim
-      (λ e. ap (list_any flagged) (cond-true _ _ _ e) ∙ some_none flagged (λ s. table.shuts) (listed (scope_in r.number)) (λ x. refl))
-      (λ e. ap (list_any flagged) (cond-false _ _ _ e))
-      (cases_Bool (eqb r.code 3))
+  of_leaving true = refl
+  of_leaving false = refl
 
-  of_closing : (n : ℕ) (around : List OpenRow) → list_any flagged (acts_of table.acts (closing n around)) ≡ false
+  of_closing : (n : ℕ) (around : List Bool) → list_any flagged (acts_of table.acts (closing n around)) ≡ false
   unfolding flagged
   of_closing n [] = refl
   of_closing n (r ∷ around) =
@@ -111,7 +106,7 @@ module _ (m : Model) (static : Static m) (d : ℕ) where
       (λ e. ap (λ es. list_any flagged (acts_of table.acts es)) (cond-false _ _ _ e))
       (cases_Bool (leb n (length around)))
 
-  acts_append : (xs ys : List Event) → list_any flagged (acts_of table.acts (xs ++ ys)) ≡ (list_any flagged (acts_of table.acts xs) || list_any flagged (acts_of table.acts ys))
+  acts_append : (xs ys : List (Event Bool)) → list_any flagged (acts_of table.acts (xs ++ ys)) ≡ (list_any flagged (acts_of table.acts xs) || list_any flagged (acts_of table.acts ys))
   acts_append [] ys = refl
   acts_append (x ∷ xs) ys =
       list_any-append flagged (table.acts x) (acts_of table.acts (xs ++ ys))
@@ -119,15 +114,15 @@ module _ (m : Model) (static : Static m) (d : ℕ) where
       ∙ sym (or_assoc (list_any flagged (table.acts x)) (list_any flagged (acts_of table.acts xs)) (list_any flagged (acts_of table.acts ys)))
       ∙ ap (λ b. b || list_any flagged (acts_of table.acts ys)) (sym (list_any-append flagged (table.acts x) (acts_of table.acts xs)))
 
-  of_rows : (around : List OpenRow) (rs : List Row) → list_any flagged (acts_of table.acts (events around rs)) ≡ list_any tags rs
+  of_rows : (around : List Bool) (rs : List Row) → list_any flagged (acts_of table.acts (events table.keeps around rs)) ≡ list_any tags rs
   of_rows around [] = of_closing 0 around
   of_rows around (r ∷ rs) =
       let on = staying r.depth around in
-      let rest = acts_of table.acts (events (open_row (head r) ∷ on) rs) in
+      let rest = acts_of table.acts (events table.keeps (table.keeps (head r) ∷ on) rs) in
       acts_append (closing r.depth around) _
       ∙ ap (λ b. b || list_any flagged (table.row_acts r ++ rest)) (of_closing r.depth around)
       ∙ list_any-append flagged (table.row_acts r) rest
-      ∙ (λ k. of_row r k || of_rows (open_row (head r) ∷ on) rs k)
+      ∙ (λ k. of_row r k || of_rows (table.keeps (head r) ∷ on) rs k)
 
   -- a declaration is noted as that of a tag exactly when it has the letter T
   pub tags_are : (rs : List Row) → fold (tags_after m static) (λ n. false) (table.pass_acts rs) d ≡ upper m rs d

@@ -22,12 +22,12 @@ module _ {W A : Type 0} (does : W → A → W) (Ready : W → List A → Type 0)
   pub over_onward : (w v t : W) (xs ys : List A) → v ≡ fold does w xs → t ≡ fold does v ys → t ≡ fold does w (xs ++ ys)
   over_onward w v t xs ys e f = f ∙ ap (λ x. fold does x ys) e ∙ sym (fold-append does w xs ys)
 
-  module _ (acts : Event → List A) where
-    pub acting_over : (es : List Event) (w : W) → fold (acting does acts) w es ≡ fold does w (acts_of acts es)
+  module _ {K : Type 0} (acts : Event K → List A) where
+    pub acting_over : (es : List (Event K)) (w : W) → fold (acting does acts) w es ≡ fold does w (acts_of acts es)
     acting_over [] w = refl
     acting_over (e ∷ es) w = acting_over es (fold does w (acts e)) ∙ sym (fold-append does w (acts e) (acts_of acts es))
 
-    pub acting_allowed : (es : List Event) (w : W) → Ready w (acts_of acts es) → Allowed (λ v e. Ready v (acts e)) (acting does acts) w es
+    pub acting_allowed : (es : List (Event K)) (w : W) → Ready w (acts_of acts es) → Allowed (λ v e. Ready v (acts e)) (acting does acts) w es
     acting_allowed [] w r = tt
     acting_allowed (e ∷ es) w r =
         (splits.front w (acts e) (acts_of acts es) r, acting_allowed es (fold does w (acts e)) (ready_over w (acts e) (acts_of acts es) r))
@@ -50,14 +50,14 @@ module _ {W A : Type 0} (does : W → A → W) (Ready : W → List A → Type 0)
         subst P (sym e) (record { same = inv.same ∙ ap (λ ys. fold does at (map f ys)) here; ready = splits.back at (f x) _ doing_ready })
 
 -- a pass whose visitor stays as it is
-module _ {V A : Type 0} (does : Tables → A → Tables) (Ready : Tables → List A → Type 0) (splits : Splits does Ready) (acts : Event → List A) where
-  pub tables_over : (es : List Event) (w : Whole V) → fold (on_tables does acts) w es ≡ whole w.visitor (fold does w.tables (acts_of acts es))
+module _ {V K A : Type 0} (does : Tables → A → Tables) (Ready : Tables → List A → Type 0) (splits : Splits does Ready) (acts : Event K → List A) where
+  pub tables_over : (es : List (Event K)) (w : Whole V) → fold (on_tables does acts) w es ≡ whole w.visitor (fold does w.tables (acts_of acts es))
   tables_over [] w = refl
   tables_over (e ∷ es) w =
       tables_over es (on_tables does acts w e)
       ∙ ap (λ t. whole w.visitor t) (sym (fold-append does w.tables (acts e) (acts_of acts es)))
 
-  pub tables_allowed : (es : List Event) (w : Whole V) → Ready w.tables (acts_of acts es) → Allowed (λ v e. Ready v.tables (acts e)) (on_tables does acts) w es
+  pub tables_allowed : (es : List (Event K)) (w : Whole V) → Ready w.tables (acts_of acts es) → Allowed (λ v e. Ready v.tables (acts e)) (on_tables does acts) w es
   tables_allowed [] w r = tt
   tables_allowed (e ∷ es) w r = (
     splits.front w.tables (acts e) (acts_of acts es) r,

@@ -11,12 +11,11 @@ use hir::environment::Environment;
 use hir::scratch::Scratch;
 use hir::span::MOST_OPEN;
 use reactive::given::GivenRow;
-use reactive::row::OpenRow;
 use reactive::source::TreeSource;
 
 // Leaves the open rows from a depth on, innermost first: in this order `pop` takes them, which a drain would have to turn.
 fn close<V: Visitor>(
-    opened: &mut FixedStack<OpenRow, MOST_OPEN>,
+    opened: &mut FixedStack<V::Kept, MOST_OPEN>,
     depth: usize,
     visitor: &mut V,
     env: &mut Environment,
@@ -28,31 +27,33 @@ fn close<V: Visitor>(
 {
     while opened.len() > depth {
         if let Some(row) = opened.pop() {
-            visitor.leave(env, scratch, &row);
+            visitor.leave(env, scratch, row);
         }
     }
 }
 
 // Enters each row in order, and leaves it after the rows within it.
+// The stack is lent, whatever it holds: where what is kept is of any type, a stack of its own might not fit into memory.
 pub fn walk<S: TreeSource, V: Visitor>(
     source: &mut S,
     visitor: &mut V,
+    opened: &mut FixedStack<V::Kept, MOST_OPEN>,
     env: &mut Environment,
     scratch: &mut Scratch,
 )
     requires shallow { Each Shallow (S.TreeSource.reading source.old).rows }
-    requires allowed { Allowed V.Visitor.can V.Visitor.after (whole visitor.old (tables env.old scratch.old)) (events [] (S.TreeSource.reading source.old).rows) }
-    ensures after { whole visitor.new (tables env.new scratch.new) ≡ fold V.Visitor.after (whole visitor.old (tables env.old scratch.old)) (events [] (S.TreeSource.reading source.old).rows) }
+    requires allowed { Allowed V.Visitor.can V.Visitor.after (whole visitor.old (tables env.old scratch.old)) (events V.Visitor.keeps [] (S.TreeSource.reading source.old).rows) }
+    ensures after { whole visitor.new (tables env.new scratch.new) ≡ fold V.Visitor.after (whole visitor.old (tables env.old scratch.old)) (events V.Visitor.keeps [] (S.TreeSource.reading source.old).rows) }
     ensures source { S.TreeSource.reading source.new ≡ rewound (S.TreeSource.reading source.old) }
 {
-    let mut opened: FixedStack<OpenRow, MOST_OPEN> = FixedStack::new();
+    opened.truncate(0);
     source.rewind();
     while let Some(row) = source.next() {
-        close(&mut opened, row.depth as usize, visitor, env, scratch);
+        close(opened, row.depth as usize, visitor, env, scratch);
         let parent = opened.last().copied();
-        opened.push(row.opened());
+        opened.push(V::keep(&row));
         visitor.enter(env, scratch, parent, &GivenRow::new(row, source));
     }
-    close(&mut opened, 0, visitor, env, scratch);
+    close(opened, 0, visitor, env, scratch);
     source.rewind();
 }

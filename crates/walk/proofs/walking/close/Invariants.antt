@@ -7,7 +7,7 @@ use Rattle.walk.proofs.walking.close.Given as goal
 abbrev pub invariant-loop-opened : goal.invariant-loop-opened
 invariant-loop-opened g l =
     (take l.depth l.opened ≡ take l.depth l.initial.opened) ×
-    Onward g.V.Visitor.can g.V.Visitor.after
+    Onward g.V.Visitor.keeps g.V.Visitor.can g.V.Visitor.after
     (whole l.initial.visitor (tables l.initial.env l.initial.scratch))
     (whole l.visitor (tables l.env l.scratch))
     (closing l.depth (reverse l.initial.opened))

@@ -7,7 +7,7 @@ use Rattle.walk.proofs.walking.walk.Given as goal
 
 abbrev pub invariant-loop-row : goal.invariant-loop-row
 invariant-loop-row g l =
-    Walking g.V.Visitor.can g.V.Visitor.after
+    Walking g.V.Visitor.keeps g.V.Visitor.can g.V.Visitor.after
     (whole l.initial.visitor (tables l.initial.env l.initial.scratch))
     (whole l.visitor (tables l.env l.scratch))
     (g.S.TreeSource.reading l.initial.source)
