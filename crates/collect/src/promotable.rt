@@ -208,6 +208,7 @@ impl Visitor for CollectPromotable {
 }
 
 // Notes the declarations of JSX tags, and which declarations of pruned scopes escape.
+#[inline(never)]
 pub fn collect_promotable<S: TreeSource>(
     source: &mut S,
     env: &mut Environment,

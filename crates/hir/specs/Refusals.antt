@@ -1,9 +1,9 @@
--- The numbers of refusals, and what a refused call answers. Assumes nothing.
+-- The numbers of refusals, and what a call answers by them. Assumes nothing.
 use Rattle.std.specs.Prelude.{ℕ, Bool, cond, Some, None, Ok, Err, Option, Result}
 use Rattle.hir.specs.declared.refusal.Refusal.{Refusal}
 use Rattle.hir.specs.declared.refusal.Refusal.TheVariants as refusals
 
--- the number that a refused call answers for this refusal
+-- the number of a refusal
 abbrev pub refusal_number : Refusal → ℕ
 refusal_number refusals.Limit = 1
 refusal_number refusals.Row = 2

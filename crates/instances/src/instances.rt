@@ -152,6 +152,7 @@ fn some_left(env: &Environment, scratch: &Scratch) -> bool
 }
 
 // Visits own parameters, and then the rows, where there is an identifier to name.
+#[inline(never)]
 pub fn promote_all_instances<S: TreeSource>(
     source: &mut S,
     env: &mut Environment,

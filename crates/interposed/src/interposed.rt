@@ -203,6 +203,7 @@ fn fix_parameters(
 }
 
 // Names the temporaries that are used after a barrier since they were tracked.
+#[inline(never)]
 pub fn promote_interposed<S: TreeSource>(
     source: &mut S,
     env: &mut Environment,

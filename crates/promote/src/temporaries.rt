@@ -125,6 +125,7 @@ impl Visitor for PromoteTemporaries {
 }
 
 // Names own parameters, and then by row what scopes take, what escaped, and inner parameters.
+#[inline(never)]
 pub fn promote_temporaries<S: TreeSource>(
     source: &mut S,
     env: &mut Environment,
