@@ -141,11 +141,12 @@ named_names {m} none h = names_none m h
 named_names {m} (more {js = js} {t = t} r tag n known was is room) h =
     names_more m t js r tag (named_names n h) (kept (more r tag none known was is room)) known was is room
 
--- the journal once some rows were named
+-- how many journal rows are in use once some rows were named
 pub count_all : (up : ℕ → Bool) (m : Model) (js : List JournalRow) → (name_all up m js).count ≡ m.count + length js
 count_all up m [] = omega arith
 count_all up m (r ∷ js) = let h = count_all up (name_one up m r) js in omega (arith, h)
 
+-- the journal once some rows were named
 pub journal_all : (up : ℕ → Bool) (m : Model) (js : List JournalRow) → m.count + length js ≤ length m.journal → journal_of (name_all up m js) ≡ journal_of m ++ js
 journal_all up m [] h = sym (append-nil (journal_of m))
 journal_all up m (r ∷ js) h =

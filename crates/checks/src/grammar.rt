@@ -17,7 +17,7 @@ pub enum Sort {
     Handler,
 }
 
-// The places for children that an open row has left, in order: one value for each such list, since each row is looked up in one.
+// The places for children that an open row has left, in order: one case for each list that occurs, so that no list is searched.
 #[derive(Clone, Copy, Default)]
 pub enum Places {
     #[default]

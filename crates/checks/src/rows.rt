@@ -64,7 +64,7 @@ fn check_all<S: TreeSource>(source: &mut S, sizes: Sizes) -> Result<usize, Refus
 }
 
 // What is wrong with the rows of a source, or with the trail rows for its scopes.
-// Compiled apart, as is each pass: in one piece with the passes the code has too few registers for what a walk holds.
+// Compiled apart, as is each pass: in one function they need more registers than there are.
 #[inline(never)]
 pub fn check_rows<S: TreeSource>(
     source: &mut S,

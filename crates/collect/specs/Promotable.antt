@@ -108,11 +108,11 @@ row_acts r =
     (cond (is codes.Pruned r) (map prunes (listed (scope_in r.number)))
     (cond (is codes.Leaf r) (leaf_acts r) (map sees (listed (used_in r.code r.identifier)))))
 
--- of an open row it is kept whether it made a scope active
+-- what is kept of an open row: whether it made a scope active
 abbrev pub keeps : RowHead → Bool
 keeps r = r.code == code_number codes.Scope && is_some (scope_in r.number)
 
--- a row that made a scope active makes it inactive when it is left
+-- the acts of a row that is entered, or left: one that made a scope active then makes it inactive
 abbrev pub acts : Event Bool → List Act
 acts (entering p r) = row_acts r
 acts (leaving active) = cond active (shuts ∷ []) []

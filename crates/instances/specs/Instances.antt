@@ -51,7 +51,7 @@ does t (leaves s) =
 abbrev pub row_acts : ℕ → Option IdentifierId → Option Number → List IdentifierId → List Act
 row_acts c i n os = cond (c == code_number codes.Leaf) (map again os ++ map parameters (listed (function_in n))) (map again (listed i))
 
--- of an open row its scope is kept
+-- what is kept of an open row: its scope
 abbrev pub keeps : RowHead → Option ScopeId
 keeps r = scope_in r.number
 

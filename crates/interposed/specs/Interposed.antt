@@ -40,11 +40,11 @@ end_acts k mode l = cond (may_raise k mode) (barrier l ∷ []) [] ++ cond (is_ba
 abbrev pub leaf_acts : Option IdentifierId → ℕ → ℕ → List IdentifierId → List IdentifierId → List Act
 leaf_acts l k mode ms os = fix_acts k mode ms ++ (value_acts k l ms ++ (map uses os ++ end_acts k mode l))
 
--- of an open row it is kept whether it is an Instruction, and then its lvalue
+-- what is kept of an open row: of an Instruction its lvalue, of any other row nothing
 abbrev pub keeps : RowHead → Option Instruction
 keeps r = cond (r.code == code_number codes.Instruction) (Some (record { lvalue = r.identifier })) None
 
--- a Leaf in any other row, or in none, only uses its operands
+-- the acts of a Leaf: within an Instruction those of its kind, anywhere else the uses of its operands
 abbrev pub under_acts : Option (Option Instruction) → ℕ → ℕ → List IdentifierId → List IdentifierId → List Act
 under_acts None k mode ms os = map uses os
 under_acts (Some None) k mode ms os = map uses os

@@ -147,6 +147,7 @@ pub struct Instruction {
 }
 
 impl Visitor for PromoteInterposed {
+    // The Instruction, where the row is one.
     type Kept = Option<Instruction>;
 
     ghost keeps = { keeps };
@@ -184,7 +185,7 @@ impl Visitor for PromoteInterposed {
         }
     }
 
-    fn leave(&mut self, _env: &mut Environment, _scratch: &mut Scratch, _row: Self::Kept) {}
+    fn leave(&mut self, _env: &mut Environment, _scratch: &mut Scratch, _kept: Self::Kept) {}
 }
 
 // Own parameters are constant from the start. Every pass loops over its lists itself: a rule of this project.

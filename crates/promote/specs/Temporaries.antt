@@ -77,7 +77,7 @@ row_acts c (Some (numbers.Scope s)) =
     cond (c == code_number codes.Scope) (scope s ∷ []) (cond (c == code_number codes.Pruned) (pruned s ∷ []) [])
 row_acts c (Some (numbers.Function f)) = inner f ∷ []
 
--- nothing is kept of an open row
+-- what is kept of an open row: nothing
 abbrev pub keeps : RowHead → Unit {0}
 keeps r = tt
 

@@ -90,6 +90,7 @@ fn promote_inner_function(env: &mut Environment, scratch: &mut Scratch, id: Func
 pub struct PromoteTemporaries;
 
 impl Visitor for PromoteTemporaries {
+    // Nothing.
     type Kept = ();
 
     ghost keeps = { keeps };
@@ -121,7 +122,7 @@ impl Visitor for PromoteTemporaries {
         }
     }
 
-    fn leave(&mut self, _env: &mut Environment, _scratch: &mut Scratch, _row: Self::Kept) {}
+    fn leave(&mut self, _env: &mut Environment, _scratch: &mut Scratch, _kept: Self::Kept) {}
 }
 
 // Names own parameters, and then by row what scopes take, what escaped, and inner parameters.

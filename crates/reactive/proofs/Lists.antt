@@ -30,7 +30,7 @@ module _ (f : Row → List IdentifierId) (s : Reading) (i : ℕ) (some : is_some
   pub none_left : None ≡ pick f (given s) i → drop i (f (last_row s)) ≡ []
   none_left found = drop_all _ _ (none_place (f (last_row s)) i (sym (found ∙ picked f (given s) i some)))
 
--- both lists of a row are as long as its head says, in numbers of the machine
+-- the lists of a row that was given have fewer than 2 ^ 64 identifiers, as its head has their lengths
 pub lists_given : (s : Reading) (h : RowHead) → Given s h → h.operands < 2 ^ 64 → h.marks < 2 ^ 64 → (l : RowList) → Lists s l
 lists_given s h g few scarce Operands = record { given = g.given; short = subst (λ (x : RowHead). x.operands < 2 ^ 64) g.row few }
 lists_given s h g few scarce Marks = record { given = g.given; short = subst (λ (x : RowHead). x.marks < 2 ^ 64) g.row scarce }

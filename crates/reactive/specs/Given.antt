@@ -16,7 +16,7 @@ pub record Given (s : Reading) (h : RowHead) : Type 0 where
   pub given : is_some (given s) ≡ true
   pub row : h ≡ head (last_row s)
 
--- a row was given, and the length of its list is a number of the machine
+-- a row was given, and its list has fewer than 2 ^ 64 identifiers
 pub record Lists (s : Reading) (l : RowList) : Type 0 where
   pub given : is_some (given s) ≡ true
   pub short : length (list_of l (last_row s)) < 2 ^ 64

@@ -14,7 +14,7 @@ pub record Whole (V : Type 0) : Type 0 where
 abbrev pub whole : {V : Type 0} → V → Tables → Whole V
 whole v t = record { visitor = v; tables = t }
 
--- a row is entered, within its parent, or left; of the parent, and of the row that is left, there is what the pass keeps of an open row
+-- a row is entered, within its parent, or left; the parent, and the row that is left, stand there as what the pass keeps of them
 pub data Event (K : Type 0) : Type 0 where
   entering : Option K → Row → Event K
   leaving : K → Event K

@@ -11,7 +11,7 @@ use reactive::source::TreeSource;
 
 // A pass over a tree.
 pub trait Visitor {
-    // What it keeps of a row while the row is open: no more, since each row is put on a stack.
+    // What it keeps of an open row: no more than it asks for, since a walk puts it on a stack for each row.
     type Kept: Copy + Default;
 
     // what it keeps of a row
@@ -39,7 +39,7 @@ pub trait Visitor {
         ensures { whole self.new (tables env.new scratch.new) ≡ after (whole self.old (tables env.old scratch.old)) (entering parent row.now) };
 
     // A row is left, after all rows within it.
-    fn leave(&mut self, env: &mut Environment, scratch: &mut Scratch, row: Self::Kept)
-        requires { can (whole self.old (tables env.old scratch.old)) (leaving row) }
-        ensures { whole self.new (tables env.new scratch.new) ≡ after (whole self.old (tables env.old scratch.old)) (leaving row) };
+    fn leave(&mut self, env: &mut Environment, scratch: &mut Scratch, kept: Self::Kept)
+        requires { can (whole self.old (tables env.old scratch.old)) (leaving kept) }
+        ensures { whole self.new (tables env.new scratch.new) ≡ after (whole self.old (tables env.old scratch.old)) (leaving kept) };
 }

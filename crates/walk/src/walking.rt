@@ -26,14 +26,14 @@ fn close<V: Visitor>(
     ensures after { whole visitor.new (tables env.new scratch.new) ≡ fold V.Visitor.after (whole visitor.old (tables env.old scratch.old)) (closing depth (reverse opened.old)) }
 {
     while opened.len() > depth {
-        if let Some(row) = opened.pop() {
-            visitor.leave(env, scratch, row);
+        if let Some(kept) = opened.pop() {
+            visitor.leave(env, scratch, kept);
         }
     }
 }
 
 // Enters each row in order, and leaves it after the rows within it.
-// The stack is lent, whatever it holds: where what is kept is of any type, a stack of its own might not fit into memory.
+// The stack is lent, and emptied first: the type of what is kept is not known here, so that nothing shows that a new stack fits into memory.
 pub fn walk<S: TreeSource, V: Visitor>(
     source: &mut S,
     visitor: &mut V,

@@ -28,7 +28,7 @@ pub struct Series {
 }
 
 /// All is timed so often, and the best time of each point counts: a machine with other users is slower now and then.
-const PASSES: usize = 4;
+const ROUNDS: usize = 4;
 
 impl Point {
     fn keep_best(&mut self, again: &Point) {
@@ -54,7 +54,7 @@ fn main() {
 
 fn measure(folder: &Path, program: Option<&Path>) -> Vec<Series> {
     let mut best = measure_once(folder, program);
-    for _ in 1..PASSES {
+    for _ in 1..ROUNDS {
         let again = measure_once(folder, program);
         let points = again.iter().flat_map(|series| &series.points);
         let kept = best.iter_mut().flat_map(|series| &mut series.points);
