@@ -6,7 +6,7 @@ use Rattle.hir.specs.declared.ids.ScopeId.{ScopeId}
 use Rattle.hir.specs.declared.span.Span.{Span}
 use Rattle.hir.specs.declared.tables.Identifier.{Identifier}
 use Rattle.hir.specs.declared.tables.Reason.TheVariants as reasons
-use Rattle.hir.specs.Environments.{Model, declaration_of, scope_of, function_of}
+use Rattle.hir.specs.Environments.{Model, row_of, scope_of, function_of}
 use Rattle.std.specs.List.{fold}
 use Rattle.hir.specs.Scratches.{Notes, Tables, work_of}
 use Rattle.hir.specs.Sound.{Known, KnownFunction, KnownScope}
@@ -19,7 +19,7 @@ use Rattle.reactive.specs.Numbers.{scope_in, function_in}
 use Rattle.reactive.specs.Rows.{Row}
 use Rattle.walk.specs.Events.{Whole, Event, entering, leaving, events, acts_of}
 use Rattle.promote.specs.Growth as growth
-use Rattle.promote.specs.Identifier.{is_unnamed, promote_if}
+use Rattle.promote.specs.Identifier.{promote_if}
 use Rattle.instances.specs.declared.instances.PromoteAllInstances.{PromoteAllInstances}
 
 -- an identifier is visited, or the parameters of a function, or the lists of a scope whose row is left
@@ -28,13 +28,13 @@ pub data Act : Type 0 where
   parameters : FunctionId → Act
   leaves : ScopeId → Act
 
--- an identifier is named if it has no name and this run named one of its declaration
-abbrev pub promote_instance : Tables → IdentifierId → Tables
-promote_instance t i = promote_if (is_unnamed t.env i && (work_of t.notes (declaration_of t.env i.0)).promoted) reasons.SameDeclaration t i
-
 -- an identifier has no name, though this run named one of its declaration
 abbrev pub is_left : Notes → Identifier → Bool
 is_left n i = i.tag == 0 && (work_of n i.declaration.0).promoted
+
+-- an identifier is named if it has no name and this run named one of its declaration
+abbrev pub promote_instance : Tables → IdentifierId → Tables
+promote_instance t i = promote_if (is_left t.notes (row_of t.env i.0)) reasons.SameDeclaration t i
 
 -- what an act leaves: what it visits is named as `promote_instance` says; of a scope first declarations, then dependencies, then reassignments
 abbrev pub does : Tables → Act → Tables
