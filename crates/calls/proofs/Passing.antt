@@ -1,7 +1,7 @@
 -- The four passes over tables and rows that are not refused. Assumes nothing.
-use Rattle.std.proofs.Common.{◌≡◌, ℕ, ◌+◌, ◌-◌, ◌<◌, ◌≤◌, cond, eqb, List, [], ◌∷◌, length, drop, Some, None, Ok, Err, Option, sym, refl, ap, ◌∙◌, subst, arith}
+use Rattle.std.proofs.Common.{◌≡◌, ℕ, ◌+◌, ◌-◌, ◌<◌, ◌≤◌, false, cond, eqb, List, [], ◌∷◌, length, drop, Some, None, Ok, Err, Option, sym, refl, ap, ◌∙◌, subst, arith}
 use lib.ListN.{length-replicate}
-use Rattle.std.proofs.lemmas.List.{drop_at}
+use Rattle.std.proofs.lemmas.List.{append-nil, drop_at}
 use Rattle.std.proofs.lemmas.Bool.{cond_both}
 use Rattle.hir.specs.declared.ids.FunctionId.{FunctionId}
 use Rattle.hir.specs.declared.ids.IdentifierId.{IdentifierId}
@@ -15,7 +15,7 @@ use Rattle.hir.specs.Environments.{Model, journal_of}
 use Rattle.hir.specs.Lists.{Each}
 use Rattle.std.specs.List.{fold}
 use Rattle.hir.specs.Refusals.{answered}
-use Rattle.hir.specs.Scratches.{Tables}
+use Rattle.hir.specs.Scratches.{Notes, Tables, both}
 use Rattle.hir.specs.Sound.{Sound, Known, KnownIn}
 use Rattle.hir.specs.Spans.{identifiers_in}
 use Rattle.reactive.specs.declared.row.Number.{Number}
@@ -43,6 +43,9 @@ use Rattle.instances.specs.Instances as instances
 use Rattle.instances.proofs.Passes as instancing
 use Rattle.reasons.specs.Coverings.{journal, ran, upper}
 use Rattle.reasons.specs.Passes.{reset, passed}
+use Rattle.reasons.specs.Journals.{name_all}
+use Rattle.reasons.specs.Laws.{may_name}
+use Rattle.reasons.proofs.Idle.{idle_runs}
 use Rattle.reasons.proofs.Runs.{blank_row, passed_ran}
 use Rattle.calls.specs.Steps.{Names, RunStep}
 use Rattle.calls.proofs.Naming.{named_names, journal_all, count_all}
@@ -244,9 +247,43 @@ module _ (b t : Tables) (ps : Span) (rs : List Row) (e : run_refusal b.env b.not
         sizes = record { work = grew.work; marks = grew.marks; trail = grew.trail };
       }
 
-pub answered_none : (o : Option Refusal) (u : Unit {0}) → Ok u ≡ answered o tt → o ≡ None
-answered_none None u e = refl
-answered_none (Some r) u e = cc
+-- a run that may name nothing leaves the environment as it is
+module _ (m : Model) (n : Notes) (ps : Span) (rs : List Row) (e : run_refusal m n ps rs ≡ None) (idle : may_name m ps rs ≡ false) where
+  names_none : Names m [] m
+  names_none = record {
+    unnamed = tt;
+    once = tt;
+    promoted = tt;
+    others = λ i f. refl;
+    declarations = λ i. refl;
+    identifiers = refl;
+    journal = sym (append-nil (journal_of m));
+    count = omega arith;
+    within = let p = passable (both m n) ps rs e in omega (arith, p.sound.room);
+    beyond = refl;
+    size = refl;
+    scopes = refl;
+    functions = refl;
+    pool = refl;
+  }
+
+  pub run_idle : RunStep m n ps rs (Ok (m.count, m.count - m.count)) m n
+  run_idle =
+      let none = idle_runs m ps rs idle in
+      let k : m.count - m.count ≡ length (journal m ps rs) = let z = ap length none in omega (arith, z) in
+      record {
+        accepted = λ f. record { answers = ap (λ x. Ok (m.count, x)) k; env = sym (ap (name_all (upper m rs) m) none); names_them = subst (λ js. Names m js m) (sym none) names_none };
+        refused = λ r f. cc;
+        sizes = record { work = refl; marks = refl; trail = refl };
+      }
+
+pub answered_none : {X : Type 0} (o : Option Refusal) (u x : X) → Ok u ≡ answered o x → o ≡ None
+answered_none None u x e = refl
+answered_none (Some r) u x e = cc
+
+pub answered_is : {X : Type 0} (o : Option Refusal) (u x : X) → Ok u ≡ answered o x → u ≡ x
+answered_is None u x e = cc
+answered_is (Some r) u x e = cc
 
 pub answered_some : (o : Option Refusal) (r : Refusal) → Err r ≡ answered {X = Unit {0}} o tt → o ≡ Some r
 answered_some None r e = cc

@@ -1,9 +1,14 @@
-ghost use Rattle.std.specs.Prelude.{◌≡◌, length, None};
+ghost use Rattle.std.specs.Prelude.{◌≡◌, ◌||◌, None};
+ghost use Rattle.std.specs.List.{list_any};
 ghost use Rattle.hir.specs.Environments.{model};
 ghost use Rattle.hir.specs.Scratches.{noted, tables};
 ghost use Rattle.hir.specs.Refusals.{answered};
-ghost use Rattle.reactive.specs.Rows.{Reading, rewound};
+ghost use Rattle.hir.specs.Spans.{ident, identifiers_in};
+ghost use Rattle.reactive.specs.Rows.{Reading, head, rewound};
+ghost use Rattle.reactive.specs.Statements.{is_statement};
+ghost use Rattle.promote.specs.Identifier.{is_unnamed};
 ghost use Rattle.checks.specs.Rows.{run_refusal};
+ghost use Rattle.reasons.specs.Laws.{takes_names};
 ghost use Rattle.reasons.specs.Passes.{passed};
 ghost use Rattle.calls.specs.Steps.{RunStep};
 
@@ -37,19 +42,53 @@ fn promote_used_temporaries<S: TreeSource>(
     promote_all_instances(source, env, scratch, parameters);
 }
 
-// What is wrong with the tables, the parameters, scratch or the rows.
+// What is wrong with the tables, the parameters, scratch or the rows, and else whether some row is a statement.
 fn check_run<S: TreeSource>(
     env: &Environment,
     scratch: &Scratch,
     source: &mut S,
     parameters: Span,
-) -> Result<(), Refusal>
-    ensures value { result ≡ answered (run_refusal (model env.now) (noted scratch.now) parameters (S.TreeSource.reading source.old).rows) tt }
+) -> Result<bool, Refusal>
+    ensures value { result ≡ answered (run_refusal (model env.now) (noted scratch.now) parameters (S.TreeSource.reading source.old).rows) (list_any (λ r. is_statement (model env.now) (head r)) (S.TreeSource.reading source.old).rows) }
     ensures source { S.TreeSource.reading source.new ≡ rewound (S.TreeSource.reading source.old) }
 {
     source.rewind();
     check_tables(env, scratch, parameters)?;
     check_rows(source, env, scratch)
+}
+
+// Whether an identifier has no name; one without a row has none either.
+fn lacks_name(env: &Environment, n: u32) -> bool
+    ensures { result ≡ is_unnamed (model env.now) (ident n) }
+{
+    match env.identifiers.get(n as usize) {
+        Some(identifier) => identifier.is_unnamed(),
+        None => true,
+    }
+}
+
+// Whether some identifier of these numbers has no name.
+fn some_lacks_name(env: &Environment, numbers: &[u32]) -> bool
+    ensures { result ≡ list_any (λ n. is_unnamed (model env.now) (ident n)) numbers.now }
+{
+    numbers.iter().any(|n| lacks_name(env, *n))
+}
+
+// Whether some identifier of a list has no name.
+fn some_unnamed(env: &Environment, list: Span) -> bool
+    ensures { result ≡ list_any (is_unnamed (model env.now)) (identifiers_in (model env.now).pool list) }
+{
+    some_lacks_name(env, list.of(env.pool))
+}
+
+// Whether a run may name something: some row is a statement, or there is a scope, a function or an own parameter without a name.
+fn may_name(env: &Environment, parameters: Span, statements: bool) -> bool
+    ensures { result ≡ (statements || takes_names (model env.now) parameters) }
+{
+    statements
+        || !env.scopes.is_empty()
+        || !env.functions.is_empty()
+        || some_unnamed(env, parameters)
 }
 
 // Names the temporaries that a reason covers, and answers the place of the first new journal row and their count.
@@ -63,8 +102,11 @@ pub fn run<S: TreeSource>(
     ensures step { RunStep (model env.old) (noted scratch.old) parameters (S.TreeSource.reading source.old).rows result (model env.new) (noted scratch.new) }
     ensures source { S.TreeSource.reading source.new ≡ rewound (S.TreeSource.reading source.old) }
 {
-    check_run(env, scratch, source, parameters)?;
+    let statements = check_run(env, scratch, source, parameters)?;
     let first = env.count;
-    promote_used_temporaries(env, scratch, source, parameters);
+    // Else nothing is named: `idle_runs_journal_nothing`.
+    if may_name(env, parameters, statements) {
+        promote_used_temporaries(env, scratch, source, parameters);
+    }
     Ok((first, env.count - first))
 }

@@ -43,10 +43,8 @@ impl Stack {
     fn wrong_depth(&self, depth: usize) -> bool
         ensures { result ≡ wrong_depth self.now depth }
     {
-        match self.rows.len() {
-            0 => depth > 0,
-            height => depth == 0 || depth > height,
-        }
+        let height = self.rows.len();
+        depth > height || (depth == 0 && height > 0)
     }
 
     // Whether a row that one of this depth closes lacks a child. By a loop: a proof for `any` was tried and did not close.

@@ -11,3 +11,4 @@ pub mod Runs
 pub mod Keeping
 pub mod Escaping
 pub mod Finding
+pub mod Idle

@@ -1,15 +1,17 @@
-use Rattle.std.proofs.Common.{◌≡◌, ◌+◌, ◌≤◌, cond, eqb, Some, sym, ap, ◌∙◌, arith}
+use Rattle.std.proofs.Common.{◌≡◌, ◌+◌, ◌≤◌, ◌||◌, cond, eqb, Some, sym, ap, ◌∙◌, arith}
 use Rattle.std.proofs.lemmas.Result.{err_from_is_err_and}
 use Rattle.std.proofs.lemmas.Bool.Decides.{nat_tests}
+use Rattle.hir.specs.Environments.{model}
 use Rattle.hir.specs.Refusals.{answered}
 use Rattle.reactive.specs.declared.row.RowHead.{RowHead}
 use Rattle.reactive.specs.Rows.{Row}
+use Rattle.reactive.specs.Statements.{is_statement}
 use Rattle.checks.specs.Rows.{opened, wrong_fields}
 use Rattle.checks.proofs.Answering.{refuses, hands_on, refused_by, not_refused, unplaced_refused}
 use Rattle.checks.proofs.Seeing as seeing
 use Rattle.checks.proofs.Slots.{opened_none}
 use Rattle.checks.proofs.rows.check_all.Goals as goal
-use Rattle.checks.proofs.rows.check_all.Goals.{then-is, else-is}
+use Rattle.checks.proofs.rows.check_all.Goals.{then-is, else-is, then-statements, else-statements}
 
 pub returns-then-passes_limit : goal.returns-then-passes_limit
 returns-then-passes_limit g c =
@@ -37,7 +39,7 @@ returns g c =
     let gave = c.in_default.ensures.value in
     let sound = seeing.ends c.loop-row.invariant gave ∙ not_refused _ tt tt c.in_ok-finish.ensures in
     record {
-      value = sym (λ k. answered (sound k) (sym (seeing.counted c.loop-row.invariant gave) k));
+      value = sym (λ k. answered (sound k) (sym (seeing.counted c.loop-row.invariant gave) k, sym (seeing.some_stands c.loop-row.invariant gave) k));
       rows = seeing.rows_kept c.loop-row.invariant gave c.next.ensures.after;
     }
 
@@ -65,16 +67,22 @@ wrong_fields-requires g c = c.in-Ok.ensures ∙ ap (λ (h : RowHead). h.code) (s
 pub returns-then-wrong_fields-clause-value : goal.returns-then-wrong_fields-clause-value
 returns-then-wrong_fields-clause-value g c =
     let opens = ap (opened c.loop-row.stack c.in-Some.row.depth) (sym c.in-Ok.ensures) ∙ c.in_ok-enter.ensures.rows in
-    let wrong = c.if-wrong_fields.ensures ∙ ap (wrong_fields c.args.sizes) c.new.ensures in
+    let wrong = c.if-wrong_fields.ensures ∙ (λ k. wrong_fields (c.from-sizes.ensures k) (c.new.ensures k)) in
     refuses _ _ _ (seeing.over_field c.loop-row.invariant c.in-Some.row c.in-Some.ensures.value c.next.ensures.after c.if-passes_limit.ensures c.if-depth-ge-MOST_OPEN.false c.enter.new.self opens wrong)
 
 pub loop-row-preserved : goal.loop-row-preserved
 loop-row-preserved g c =
     let opens = ap (opened c.loop-row.stack c.in-Some.row.depth) (sym c.in-Ok.ensures) ∙ c.in_ok-enter.ensures.rows in
-    let right = c.if-wrong_fields.ensures ∙ ap (wrong_fields c.args.sizes) c.new.ensures in
+    let right = c.if-wrong_fields.ensures ∙ (λ k. wrong_fields (c.from-sizes.ensures k) (c.new.ensures k)) in
     let is : c.if-is.scopes ≡ c.loop-row.scopes + cond (eqb c.in-Some.row.code 3) 1 0 = elim c.if-is.branch [ then-is w ↦ grind (arith, nat_tests) | else-is w ↦ grind (arith, nat_tests) ] in
     let few : c.if-is.scopes ≤ c.loop-row.seen + 1 = elim c.if-is.branch [ then-is w ↦ omega (arith, w.scopes-is, c.loop-row.invariant.few) | else-is w ↦ omega (arith, w.scopes-is, c.loop-row.invariant.few) ] in
-    seeing.seen_on c.loop-row.invariant c.in-Some.row c.in-Some.ensures.value c.next.ensures.after c.if-passes_limit.ensures c.if-depth-ge-MOST_OPEN.false c.enter.new.self opens right _ is few
+    let stands = is_statement (model c.args.env.now) c.in-Some.row in
+    let so : c.if-statements.statements ≡ c.loop-row.statements || stands =
+    elim c.if-statements.branch [
+      | then-statements w ↦ w.statements-is ∙ w.if-statements.true ∙ ap (λ b. b || stands) (sym w.if-statements.true)
+      | else-statements w ↦ w.statements-is ∙ w.is_statement-statements.ensures ∙ ap (λ b. b || stands) (sym w.if-statements.false)
+    ] in
+    seeing.seen_on c.loop-row.invariant c.in-Some.row c.in-Some.ensures.value c.next.ensures.after c.if-passes_limit.ensures c.if-depth-ge-MOST_OPEN.false c.enter.new.self opens right _ is few _ so
 
 pub returns-in_err-finish-clause-value : goal.returns-in_err-finish-clause-value
 returns-in_err-finish-clause-value g c =

@@ -1,0 +1,251 @@
+-- A run that may name nothing journals nothing. Assumes nothing.
+use Rattle.std.proofs.Common.{◌≡◌, ℕ, Bool, true, false, cond, not, ◌&&◌, ◌||◌, eqb, List, [], ◌∷◌, ◌++◌, map, length, get_or, Some, None, Option, sym, refl, ap, ◌∙◌, subst, ⊎_elim, arith}
+use Rattle.std.proofs.lemmas.Bool.{cases_Bool, cond_both, cond-true, cond-false, or_parts, and_parts, eqb-true}
+use Rattle.std.proofs.lemmas.List.{append-nil, nil_from_length}
+use Rattle.hir.specs.declared.ids.IdentifierId.{IdentifierId}
+use Rattle.hir.specs.declared.span.Span.{Span}
+use Rattle.hir.specs.declared.tables.JournalRow.{JournalRow}
+use Rattle.hir.specs.declared.tables.Reason.{Reason}
+use Rattle.hir.specs.declared.tables.Reason.TheVariants as reasons
+use Rattle.hir.specs.declared.tables.Scope.{Scope}
+use Rattle.hir.specs.Environments.{Model, no_scope, declaration_of, scope_of}
+use Rattle.hir.specs.Lists.{Each}
+use Rattle.std.specs.List.{fold, filter, list_any}
+use Rattle.hir.specs.Spans.{identifiers_in}
+use Rattle.reactive.specs.Codes.{listed, used_in}
+use Rattle.reactive.specs.Rows.{Row, head}
+use Rattle.reactive.specs.Statements.{no_temporary, is_statement}
+use Rattle.walk.specs.Events.{entering}
+use Rattle.walk.proofs.Fitting.{Within, each_acts, each_append, each_cond}
+use Rattle.promote.specs.Identifier.{is_unnamed}
+use Rattle.promote.specs.Temporaries as temporaries
+use Rattle.interposed.specs.declared.interposed.Instruction.{Instruction}
+use Rattle.interposed.specs.Acts.{Act, uses, fixes, loads, takes, global, barrier, tracks}
+use Rattle.interposed.specs.Interposed.{fix_acts, marks_acts, value_acts, leaf_acts, keeps, under_acts, acts, pass_acts}
+use Rattle.interposed.specs.Kinds.{is_load, is_property_load, is_global_load, is_barrier, fixes_marks, may_raise}
+use Rattle.instances.specs.Instances as instances
+use Rattle.reasons.specs.Journals.{names, is_named, firsts, declares}
+use Rattle.reasons.specs.Escapes.{escaped}
+use Rattle.reasons.specs.Interposed.{Known, if, act, finds, fixing, globally, tracking, nothing, interposed}
+use Rattle.reasons.specs.Coverings.{covers, Covered, reaching, covering, early, named_then, between, before, visits, late, journal}
+use Rattle.reasons.specs.Laws.{takes_names, may_name, IdleRuns}
+use Rattle.reasons.proofs.Bools.{and_false, true_false}
+
+none_kept : {A : Type 0} (p : A → Bool) → ((x : A) → p x ≡ false) → (xs : List A) → filter p xs ≡ []
+none_kept p none [] = refl
+none_kept p none (x ∷ xs) = cond-false _ _ _ (none x) ∙ none_kept p none xs
+
+each_fails : {A : Type 0} (p : A → Bool) (xs : List A) → list_any p xs ≡ false → Each (λ x. p x ≡ false) xs
+each_fails p [] e = tt
+each_fails p (x ∷ xs) e = let h = or_parts (p x) (list_any p xs) e in (h.0, each_fails p xs h.1)
+
+-- acts by which nothing is found: no barrier is raised, where these have a name
+Quiet : (ℕ → Bool) → Act → Type 0
+Quiet named (uses x) = Unit {0}
+Quiet named (fixes x) = Unit {0}
+Quiet named (loads l x) = Unit {0}
+Quiet named (takes l x) = Unit {0}
+Quiet named (global l) = Unit {0}
+Quiet named (barrier None) = ⊥
+Quiet named (barrier (Some l)) = named l.0 ≡ false
+Quiet named (tracks l) = Unit {0}
+
+-- nothing is exposed, and nothing found
+record Calm (named : ℕ → Bool) (s : Known) : Type 0 where
+  pub same : s.named ≡ named
+  pub exposed : (i : ℕ) → s.exposed i ≡ false
+  pub found : s.found ≡ []
+
+module _ (named : ℕ → Bool) where
+  calm_fixing : (x : ℕ) (s : Known) → Calm named s → Calm named (fixing x s)
+  calm_fixing x s c = record { same = c.same; exposed = c.exposed; found = c.found }
+
+  calm_globally : (x : ℕ) (s : Known) → Calm named s → Calm named (globally x s)
+  calm_globally x s c = record { same = c.same; exposed = c.exposed; found = c.found }
+
+  calm_tracking : (x : ℕ) (s : Known) → Calm named s → Calm named (tracking x s)
+  calm_tracking x s c = record { same = c.same; exposed = λ i. ap (λ b. not (eqb i x) && b) (c.exposed i) ∙ and_false (not (eqb i x)); found = c.found }
+
+  calm_if : (b : Bool) (f : Known → Known) (s : Known) → Calm named s → Calm named (f s) → Calm named (if b f s)
+  calm_if b f s c d = cond_both b (f s) s (Calm named) (λ e. d) (λ e. c)
+
+  calm_act : (s : Known) (a : Act) → Calm named s → Quiet named a → Calm named (act s a)
+  unfolding Quiet
+  calm_act s (uses x) c q =
+      cond_both (not (s.named x.0) && (not (s.constant x.0) && s.exposed x.0)) (finds x s) s (Calm named)
+      (λ e. true_false (s.exposed x.0) (and_parts (not (s.constant x.0)) (s.exposed x.0) (and_parts (not (s.named x.0)) _ e).1).1 (c.exposed x.0))
+      (λ e. c)
+  calm_act s (fixes x) c q = calm_fixing x.0 s c
+  calm_act s (loads l x) c q =
+      calm_if (not (s.named l.0)) (λ k. tracking l.0 (if (s.constant x.0) (fixing l.0) k)) s c
+      (calm_tracking l.0 _ (calm_if (s.constant x.0) (fixing l.0) s c (calm_fixing l.0 s c)))
+  calm_act s (takes l x) c q =
+      let d = calm_if (s.global x.0) (λ k. fixing l.0 (globally l.0 k)) s c (calm_fixing l.0 _ (calm_globally l.0 s c)) in
+      calm_if (not (s.named l.0)) (tracking l.0) _ d (calm_tracking l.0 _ d)
+  calm_act s (global l) c q = calm_globally l.0 s c
+  calm_act s (barrier None) c q = absurd q
+  calm_act s (barrier (Some l)) c q = subst (Calm named) (sym (cond-false _ _ _ (ap (λ f. f l.0) c.same ∙ q))) c
+  calm_act s (tracks l) c q = calm_if (not (s.named l.0)) (tracking l.0) s c (calm_tracking l.0 s c)
+
+  calm_all : (todo : List Act) (s : Known) → Calm named s → Each (Quiet named) todo → Calm named (fold act s todo)
+  calm_all [] s c q = c
+  calm_all (a ∷ todo) s c q = calm_all todo (act s a) (calm_act s a c q.0) q.1
+
+  found_none : (todo : List Act) → Each (Quiet named) todo → interposed named todo ≡ []
+  found_none todo q = (calm_all todo (nothing named) (record { same = refl; exposed = λ i. refl; found = refl }) q).found
+
+-- acts of rows without a statement
+module _ (m : Model) (named : ℕ → Bool) (fresh : (i : ℕ) → is_named m i ≡ false → named i ≡ false) where
+  quiet_marks : (k : ℕ) (l : IdentifierId) (ms : List IdentifierId) → Each (Quiet named) (marks_acts k l ms)
+  unfolding Quiet
+  quiet_marks k l [] = tt
+  quiet_marks k l (x ∷ ms) =
+      each_cond (Quiet named) (is_load k) (loads l x ∷ []) _ (tt, tt) (each_cond (Quiet named) (is_property_load k) (takes l x ∷ []) [] (tt, tt) tt)
+
+  quiet_value : (k : ℕ) (l : Option IdentifierId) (ms : List IdentifierId) → Each (Quiet named) (value_acts k l ms)
+  unfolding Quiet
+  quiet_value k None ms = tt
+  quiet_value k (Some l) ms = each_cond (Quiet named) (is_global_load k) (global l ∷ []) _ (tt, tt) (quiet_marks k l ms)
+
+  quiet_barrier : (l : Option IdentifierId) → no_temporary m l ≡ false → Quiet named (barrier l)
+  unfolding Quiet
+  quiet_barrier None e = true_false true refl e
+  quiet_barrier (Some i) e = fresh i.0 e
+
+  quiet_map : (f : IdentifierId → Act) → ((x : IdentifierId) → Quiet named (f x)) → (is : List IdentifierId) → Each (Quiet named) (map f is)
+  quiet_map f all [] = tt
+  quiet_map f all (x ∷ is) = (all x, quiet_map f all is)
+
+  quiet_uses : (is : List IdentifierId) → Each (Quiet named) (map uses is)
+  unfolding Quiet
+  quiet_uses is = quiet_map uses (λ x. tt) is
+
+  quiet_fixes : (is : List IdentifierId) → Each (Quiet named) (map fixes is)
+  unfolding Quiet
+  quiet_fixes is = quiet_map fixes (λ x. tt) is
+
+  quiet_tracks : (is : List IdentifierId) → Each (Quiet named) (map tracks is)
+  unfolding Quiet
+  quiet_tracks is = quiet_map tracks (λ x. tt) is
+
+  quiet_leaf : (l : Option IdentifierId) (k mode : ℕ) (ms os : List IdentifierId) → no_temporary m l ≡ false → Each (Quiet named) (leaf_acts l k mode ms os)
+  quiet_leaf l k mode ms os e =
+      each_append (Quiet named) (fix_acts k mode ms) _ (each_cond (Quiet named) (fixes_marks k mode) (map fixes ms) [] (quiet_fixes ms) tt)
+      (each_append (Quiet named) (value_acts k l ms) _ (quiet_value k l ms)
+      (each_append (Quiet named) (map uses os) _ (quiet_uses os)
+      (each_append (Quiet named) (cond (may_raise k mode) (barrier l ∷ []) []) _ (each_cond (Quiet named) (may_raise k mode) (barrier l ∷ []) [] (quiet_barrier l e, tt) tt)
+      (each_cond (Quiet named) (is_barrier k) (map tracks (listed l)) [] (quiet_tracks (listed l)) tt))))
+
+  -- the Instruction has an lvalue without a name
+  Temporary : Option Instruction → Type 0
+  Temporary o = (q : Instruction) → o ≡ Some q → no_temporary m q.lvalue ≡ false
+
+  kept_temporary : (r : Row) → is_statement m (head r) ≡ false → Temporary (keeps (head r))
+  unfolding Temporary
+  kept_temporary r e q is =
+      ⊎_elim
+      (λ b.
+      let f : ◌≡◌ {A = Instruction} (record { lvalue = r.identifier }) q = let g : ◌≡◌ {A = Option Instruction} (Some (record { lvalue = r.identifier })) (Some q) = sym (cond-true _ _ _ b) ∙ is in cc in
+      subst (λ (x : Instruction). no_temporary m x.lvalue ≡ false) f (sym (ap (λ c. c && no_temporary m r.identifier) b) ∙ e))
+      (λ b. absurd (let f : ◌≡◌ {A = Option Instruction} None (Some q) = sym (cond-false _ _ _ b) ∙ is in let z : ◌≡◌ {A = ℕ} 0 1 = cc in omega arith))
+      (cases_Bool (eqb r.code 2))
+
+  quiet_under : (p : Option (Option Instruction)) (r : Row) → Within Temporary p → Each (Quiet named) (under_acts p r.kind r.mode r.marks r.operands)
+  unfolding Temporary
+  quiet_under None r w = quiet_uses r.operands
+  quiet_under (Some None) r w = quiet_uses r.operands
+  quiet_under (Some (Some q)) r w = quiet_leaf q.lvalue r.kind r.mode r.marks r.operands (w (Some q) refl q refl)
+
+  quiet_row : (p : Option (Option Instruction)) (r : Row) → Within Temporary p → is_statement m (head r) ≡ false → Each (Quiet named) (acts (entering p r))
+  quiet_row p r w e = each_cond (Quiet named) (eqb r.code 5) _ _ (quiet_under p r w) (quiet_uses (listed (used_in r.code r.identifier)))
+
+  quiet_rows : (own : List IdentifierId) (rs : List Row) → list_any (λ r. is_statement m (head r)) rs ≡ false → Each (Quiet named) (pass_acts own rs)
+  quiet_rows own rs e =
+      each_append (Quiet named) (map fixes own) _ (quiet_fixes own)
+      (each_acts keeps (λ r. is_statement m (head r) ≡ false) Temporary kept_temporary acts (Quiet named) quiet_row (λ q k. tt) [] rs tt (each_fails (λ r. is_statement m (head r)) rs e))
+
+-- a list of named identifiers
+module _ (m : Model) (why : Reason) where
+  named_none : (own : List IdentifierId) → list_any (is_unnamed m) own ≡ false → firsts (is_named m) (covers why own) ≡ []
+  named_none [] e = refl
+  named_none (x ∷ own) e =
+      let h = or_parts (is_unnamed m x) (list_any (is_unnamed m) own) e in
+      cond-true _ _ _ (ap not h.0) ∙ named_none own h.1
+
+  other_none : (own : List IdentifierId) → list_any (is_unnamed m) own ≡ false → (i : ℕ) → is_named m i ≡ false → names i (covers why own) ≡ false
+  other_none [] e i new = refl
+  other_none (x ∷ own) e i new =
+      let h = or_parts (is_unnamed m x) (list_any (is_unnamed m) own) e in
+      ⊎_elim
+      (λ b. true_false (is_named m i) (ap (is_named m) (eqb-true i x.0 b) ∙ ap not h.0) new)
+      (λ b. ap (λ c. c || names i (covers why own)) b ∙ other_none own h.1 i new)
+      (cases_Bool (eqb i x.0))
+
+module _ (m : Model) (ps : Span) (rs : List Row) (idle : may_name m ps rs ≡ false) where
+  abbrev own : List IdentifierId
+  own = identifiers_in m.pool ps
+
+  statements : list_any (λ r. is_statement m (head r)) rs ≡ false
+  statements = (or_parts (list_any (λ r. is_statement m (head r)) rs) _ idle).0
+
+  no_takers : takes_names m ps ≡ false
+  no_takers = (or_parts (list_any (λ r. is_statement m (head r)) rs) _ idle).1
+
+  all_named : list_any (is_unnamed m) own ≡ false
+  all_named = (or_parts (not (eqb (length m.functions) 0)) _ (or_parts (not (eqb (length m.scopes) 0)) _ no_takers).1).1
+
+  is_zero : (n : ℕ) → not (eqb n 0) ≡ false → n ≡ 0
+  is_zero n e = ⊎_elim (λ b. eqb-true n 0 b) (λ b. true_false (not (eqb n 0)) (ap not b) e) (cases_Bool (eqb n 0))
+
+  no_scopes : m.scopes ≡ []
+  no_scopes = nil_from_length _ (is_zero (length m.scopes) (or_parts (not (eqb (length m.scopes) 0)) _ no_takers).0)
+
+  no_functions : length m.functions ≡ 0
+  no_functions = is_zero (length m.functions) (or_parts (not (eqb (length m.functions) 0)) _ (or_parts (not (eqb (length m.scopes) 0)) _ no_takers).1).0
+
+  no_scope_at : (x : ℕ) → scope_of m x ≡ no_scope
+  no_scope_at x = ap (λ ss. get_or ss x no_scope) no_scopes
+
+  -- no row covers anything early
+  covers_none : (out : ℕ → Bool) (s : Covered) (a : temporaries.Act) → (covering m out s a).rows ≡ s.rows
+  covers_none out s (temporaries.scope x) =
+      let f : Scope → List JournalRow = λ c. s.rows ++ (covers reasons.Scope (identifiers_in m.pool c.dependencies) ++ covers reasons.Scope (identifiers_in m.pool c.declarations)) in
+      ap f (no_scope_at x.0) ∙ append-nil s.rows
+  covers_none out s (temporaries.pruned x) =
+      let f : Scope → List JournalRow = λ c. s.rows ++ covers reasons.Escape (filter (λ i. out (declaration_of m i.0)) (identifiers_in m.pool c.declarations)) in
+      ap f (no_scope_at x.0) ∙ append-nil s.rows
+  covers_none out s (temporaries.inner f) = ap (λ k. (reaching k m s f).rows) no_functions
+
+  cover_none : (out : ℕ → Bool) (todo : List temporaries.Act) (s : Covered) → (fold (covering m out) s todo).rows ≡ s.rows
+  cover_none out [] s = refl
+  cover_none out (a ∷ todo) s = cover_none out todo (covering m out s a) ∙ covers_none out s a
+
+  early_is : early m ps rs ≡ covers reasons.OwnParameter own
+  early_is = cover_none (escaped m rs) (temporaries.pass_acts rs) _
+
+  fresh : (i : ℕ) → is_named m i ≡ false → named_then m ps rs i ≡ false
+  fresh i new = ap (λ js. names i js || is_named m i) early_is ∙ ap (λ b. b || is_named m i) (other_none m reasons.OwnParameter own all_named i new) ∙ new
+
+  between_is : between m ps rs ≡ []
+  between_is = ap (covers reasons.Interposed) (found_none (named_then m ps rs) (pass_acts own rs) (quiet_rows m (named_then m ps rs) fresh own rs statements))
+
+  before_is : before m ps rs ≡ []
+  before_is =
+      (λ k. firsts (is_named m) (early_is k ++ between_is k))
+      ∙ ap (firsts (is_named m)) (append-nil (covers reasons.OwnParameter own))
+      ∙ named_none m reasons.OwnParameter own all_named
+
+  late_is : late m ps rs ≡ []
+  late_is =
+      let xs = own ++ visits m (instances.pass_acts rs) in
+      ap (λ js. covers reasons.SameDeclaration (filter (λ i. declares m js (declaration_of m i.0)) xs)) before_is
+      ∙ ap (covers reasons.SameDeclaration) (none_kept (λ (i : IdentifierId). declares m [] (declaration_of m i.0)) (λ i. refl) xs)
+
+  journal_none : journal m ps rs ≡ []
+  journal_none =
+      (λ k. firsts (is_named m) (early_is k ++ (between_is k ++ late_is k)))
+      ∙ ap (firsts (is_named m)) (append-nil (covers reasons.OwnParameter own))
+      ∙ named_none m reasons.OwnParameter own all_named
+
+pub idle_runs : IdleRuns
+idle_runs m ps rs idle = journal_none m ps rs idle
