@@ -188,14 +188,15 @@ impl Visitor for CollectPromotable {
         ensures { whole self.new (tables env.new scratch.new) ≡ acting does acts (whole self.old (tables env.old scratch.old)) (entering _parent row.now) }
     {
         let head = row.head();
-        match (Code::try_from(head.code), head.scope()) {
-            (Ok(Code::Scope), Some(scope)) => self.open_scope(scratch, scope),
-            (Ok(Code::Pruned), Some(scope)) => self.record_pruned_scope(env, scratch, scope),
-            (Ok(Code::Leaf), _) => self.collect_promotable_instruction(env, scratch, row),
-            _ => {
-                if let Some(id) = head.used() {
-                    self.collect_promotable_place(env, scratch, id);
-                }
+        if head.is(Code::Leaf) {
+            self.collect_promotable_instruction(env, scratch, row);
+        } else if let Some(id) = head.used() {
+            self.collect_promotable_place(env, scratch, id);
+        } else if let Some(scope) = head.scope() {
+            if head.is(Code::Scope) {
+                self.open_scope(scratch, scope);
+            } else if head.is(Code::Pruned) {
+                self.record_pruned_scope(env, scratch, scope);
             }
         }
     }

@@ -112,13 +112,14 @@ impl PromoteInterposed {
         ensures { whole self.new (tables env.now scratch.new) ≡ fold does (whole self.old (tables env.now scratch.old)) (end_acts row.now.kind row.now.mode lvalue) }
     {
         let head = row.head();
+        if !is_barrier(head.kind) {
+            return;
+        }
         if may_raise(head.kind, head.mode) {
             self.raise(env, scratch, lvalue);
         }
-        if is_barrier(head.kind) {
-            if let Some(l) = lvalue {
-                self.track(env, scratch, l);
-            }
+        if let Some(l) = lvalue {
+            self.track(env, scratch, l);
         }
     }
 

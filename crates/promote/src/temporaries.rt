@@ -112,12 +112,12 @@ impl Visitor for PromoteTemporaries {
         ensures { whole self.new (tables env.new scratch.new) ≡ on_tables does acts (whole self.old (tables env.old scratch.old)) (entering _parent row.now) }
     {
         let row = row.head();
-        match (Code::try_from(row.code), row.number) {
-            (Ok(Code::Scope), Some(Number::Scope(scope))) => promote_scope(env, scratch, scope),
-            (Ok(Code::Pruned), Some(Number::Scope(scope))) => {
+        match row.number {
+            Some(Number::Scope(scope)) if row.is(Code::Scope) => promote_scope(env, scratch, scope),
+            Some(Number::Scope(scope)) if row.is(Code::Pruned) => {
                 promote_pruned_scope(env, scratch, scope)
             }
-            (_, Some(Number::Function(function))) => promote_inner_function(env, scratch, function),
+            Some(Number::Function(function)) => promote_inner_function(env, scratch, function),
             _ => {}
         }
     }

@@ -15,10 +15,10 @@ use hir::span::Span;
 pub struct RowEntry {
     pub depth: u32,
     pub code: u8,
-    pub identifier: Option<IdentifierId>,
-    pub number: Option<Number>,
     pub kind: u8,
     pub mode: u8,
+    pub identifier: Option<IdentifierId>,
+    pub number: Option<Number>,
     pub operands: Span,
     pub marks: Span,
 }
