@@ -1,5 +1,5 @@
 -- What the third pass keeps. Assumes nothing.
-use Rattle.std.proofs.Common.{◌≡◌, ℕ, ◌+◌, ◌≤◌, Bool, cond, eqb, leb, List, [], ◌∷◌, ◌++◌, map, length, Some, None, Option, sym, refl, ap, ◌∙◌, subst, ⊎_elim, arith, length-set}
+use Rattle.std.proofs.Common.{◌≡◌, ℕ, ◌+◌, ◌≤◌, Bool, cond, eqb, leb, List, [], ◌∷◌, ◌++◌, map, length, Some, None, Option, sym, refl, ap, ◌∙◌, ⊎_elim, arith, length-set}
 use Rattle.std.proofs.lemmas.Bool.{and_parts, cases_Bool, cond_both, cond-true, cond-false}
 use Rattle.hir.specs.declared.ids.IdentifierId.{IdentifierId}
 use Rattle.hir.specs.declared.scratch.Work.{Work}
@@ -17,8 +17,9 @@ use Rattle.walk.proofs.Acting.{Splits, ready_onward, over_onward}
 use Rattle.promote.specs.Growth.{Grows, none}
 use Rattle.promote.proofs.Growing.{Kept, kept, grows_none, grows_trans, grows_if, sound_grows}
 use Rattle.walk.proofs.Fitting.{Within, each_acts, each_append, each_cond, each_front, each_map, each_listed}
-use Rattle.interposed.specs.declared.interposed.Instruction.{Instruction}
-use Rattle.interposed.specs.Interposed.{fix_acts, marks_acts, value_acts, end_acts, leaf_acts, keeps, under_acts, acts, begun, pass_acts}
+use Rattle.interposed.specs.declared.interposed.Parent.{Parent}
+use Rattle.interposed.specs.declared.interposed.Parent.TheVariants.{Other, WithoutLvalue, WithLvalue}
+use Rattle.interposed.specs.Interposed.{fix_acts, marks_acts, value_acts, end_acts, leaf_acts, instruction, keeps, under_acts, acts, begun, pass_acts}
 use Rattle.interposed.specs.Kinds.{is_load, is_property_load, is_global_load, is_barrier, fixes_marks, may_raise}
 use Rattle.interposed.specs.Acts.{State, Act, uses, fixes, loads, takes, global, barrier, tracks, epoch, noting, nameless, found, raised, does, KnownIf, Fits, barriers, Ready}
 
@@ -166,22 +167,26 @@ module _ (m : Model) where
   known_if (Some i) h = h i refl
 
   -- the lvalue of an Instruction has a row
-  Lvalue : Option Instruction → Type 0
-  Lvalue o = (q : Instruction) → o ≡ Some q → KnownIf m q.lvalue
+  Lvalue : Parent → Type 0
+  Lvalue Other = Unit {0}
+  Lvalue WithoutLvalue = Unit {0}
+  Lvalue (WithLvalue l) = Known m l
 
-  fits_under : (p : Option (Option Instruction)) (r : Row) → Within Lvalue p → RowSound m r → Each (Fits m) (under_acts p r.kind r.mode r.marks r.operands)
+  fits_under : (p : Option Parent) (r : Row) → Within Lvalue p → RowSound m r → Each (Fits m) (under_acts p r.kind r.mode r.marks r.operands)
   unfolding Lvalue
   fits_under None r w h = fits_uses r.operands h.operands
-  fits_under (Some None) r w h = fits_uses r.operands h.operands
-  fits_under (Some (Some q)) r w h = fits_leaf q.lvalue r.kind r.mode r.marks r.operands (w (Some q) refl q refl) h.marks h.operands
+  fits_under (Some Other) r w h = fits_uses r.operands h.operands
+  fits_under (Some WithoutLvalue) r w h = fits_leaf None r.kind r.mode r.marks r.operands tt h.marks h.operands
+  fits_under (Some (WithLvalue l)) r w h = fits_leaf (Some l) r.kind r.mode r.marks r.operands (w (WithLvalue l) refl) h.marks h.operands
+
+  instruction_known : (o : Option IdentifierId) → ((i : IdentifierId) → o ≡ Some i → Known m i) → Lvalue (instruction o)
+  unfolding Lvalue
+  instruction_known None h = tt
+  instruction_known (Some i) h = h i refl
 
   lvalue_known : (r : Row) → RowSound m r → Lvalue (keeps (head r))
   unfolding Lvalue
-  lvalue_known r h q e =
-      ⊎_elim
-      (λ b. let f : ◌≡◌ {A = Instruction} (record { lvalue = r.identifier }) q = cc in subst (λ (x : Instruction). KnownIf m x.lvalue) f (known_if r.identifier h.identifier))
-      (λ b. absurd (let f : ◌≡◌ {A = Option Instruction} None (Some q) = sym (cond-false _ _ _ b) ∙ e in let z : ◌≡◌ {A = ℕ} 0 1 = cc in omega arith))
-      (cases_Bool (eqb r.code 2))
+  lvalue_known r h = cond_both (eqb r.code 2) (instruction r.identifier) Other Lvalue (λ e. instruction_known r.identifier h.identifier) (λ e. tt)
 
   used_is : (c : ℕ) (o : Option IdentifierId) (i : IdentifierId) → used_in c o ≡ Some i → o ≡ Some i
   used_is c o i e =
@@ -190,7 +195,7 @@ module _ (m : Model) where
       (λ b. absurd (let f : None ≡ Some i = sym (cond-false (uses_identifier c) o None b) ∙ e in let z : ◌≡◌ {A = ℕ} 0 1 = cc in omega arith))
       (cases_Bool (uses_identifier c))
 
-  fits_row : (p : Option (Option Instruction)) (r : Row) → Within Lvalue p → RowSound m r → Each (Fits m) (acts (entering p r))
+  fits_row : (p : Option Parent) (r : Row) → Within Lvalue p → RowSound m r → Each (Fits m) (acts (entering p r))
   fits_row p r w h =
       each_cond (Fits m) (eqb r.code 5) _ _
       (fits_under p r w h)
@@ -238,29 +243,30 @@ few_leaf l k mode ms os =
     let i = few_cond 0 (is_barrier k) (map tracks (listed l)) [] (omega (arith, none_tracks (listed l))) (omega arith) in
     omega (arith, a, b, c, d, e, f, g, h, i)
 
-few_under : (o : Option (Option Instruction)) (k mode : ℕ) (ms os : List IdentifierId) → barriers (under_acts o k mode ms os) ≤ 1
+few_under : (o : Option Parent) (k mode : ℕ) (ms os : List IdentifierId) → barriers (under_acts o k mode ms os) ≤ 1
 few_under None k mode ms os = omega (arith, none_uses os)
-few_under (Some None) k mode ms os = omega (arith, none_uses os)
-few_under (Some (Some q)) k mode ms os = few_leaf q.lvalue k mode ms os
+few_under (Some Other) k mode ms os = omega (arith, none_uses os)
+few_under (Some WithoutLvalue) k mode ms os = few_leaf None k mode ms os
+few_under (Some (WithLvalue l)) k mode ms os = few_leaf (Some l) k mode ms os
 
-few_row : (p : Option (Option Instruction)) (r : Row) → barriers (acts (entering p r)) ≤ 1
+few_row : (p : Option Parent) (r : Row) → barriers (acts (entering p r)) ≤ 1
 few_row p r =
     few_cond 1 (eqb r.code 5) _ _ (few_under p r.kind r.mode r.marks r.operands)
     (omega (arith, none_uses (listed (used_in r.code r.identifier))))
 
-acts_both : (xs ys : List (Event (Option Instruction))) → barriers (acts_of acts (xs ++ ys)) ≡ barriers (acts_of acts xs) + barriers (acts_of acts ys)
+acts_both : (xs ys : List (Event Parent)) → barriers (acts_of acts (xs ++ ys)) ≡ barriers (acts_of acts xs) + barriers (acts_of acts ys)
 acts_both [] ys = omega arith
 acts_both (x ∷ xs) ys =
     let a = barriers_append (acts x) (acts_of acts (xs ++ ys)) in
     let b = barriers_append (acts x) (acts_of acts xs) in
     omega (arith, a, b, acts_both xs ys)
 
-none_closing : (d : ℕ) (around : List (Option Instruction)) → barriers (acts_of acts (closing d around)) ≤ 0
+none_closing : (d : ℕ) (around : List Parent) → barriers (acts_of acts (closing d around)) ≤ 0
 none_closing d [] = omega arith
 none_closing d (r ∷ around) =
     cond_both (leb d (length around)) (leaving r ∷ closing d around) [] (λ es. barriers (acts_of acts es) ≤ 0) (λ e. none_closing d around) (λ e. omega arith)
 
-few_events : (around : List (Option Instruction)) (rs : List Row) → barriers (acts_of acts (events keeps around rs)) ≤ length rs
+few_events : (around : List Parent) (rs : List Row) → barriers (acts_of acts (events keeps around rs)) ≤ length rs
 few_events around [] = omega (arith, none_closing 0 around)
 few_events around (r ∷ rs) =
     let p = innermost_of (staying r.depth around) in

@@ -10,7 +10,8 @@ use Rattle.reactive.specs.declared.row.RowHead.{RowHead}
 use Rattle.reactive.specs.Codes.{code_number, used_in, listed}
 use Rattle.reactive.specs.Rows.{Row, head}
 use Rattle.walk.specs.Events.{whole, Event, entering, leaving, events, acts_of}
-use Rattle.interposed.specs.declared.interposed.Instruction.{Instruction}
+use Rattle.interposed.specs.declared.interposed.Parent.{Parent}
+use Rattle.interposed.specs.declared.interposed.Parent.TheVariants.{Other, WithoutLvalue, WithLvalue}
 use Rattle.interposed.specs.Kinds.{is_load, is_property_load, is_global_load, is_barrier, fixes_marks, may_raise}
 use Rattle.interposed.specs.Acts.{State, Act, uses, fixes, loads, takes, global, barrier, tracks, does, Ready}
 
@@ -40,22 +41,28 @@ end_acts k mode l = cond (may_raise k mode) (barrier l ∷ []) [] ++ cond (is_ba
 abbrev pub leaf_acts : Option IdentifierId → ℕ → ℕ → List IdentifierId → List IdentifierId → List Act
 leaf_acts l k mode ms os = fix_acts k mode ms ++ (value_acts k l ms ++ (map uses os ++ end_acts k mode l))
 
--- what is kept of an open row: of an Instruction its lvalue, of any other row nothing
-abbrev pub keeps : RowHead → Option Instruction
-keeps r = cond (r.code == code_number codes.Instruction) (Some (record { lvalue = r.identifier })) None
+-- an Instruction with this lvalue, or without one
+abbrev pub instruction : Option IdentifierId → Parent
+instruction None = WithoutLvalue
+instruction (Some l) = WithLvalue l
+
+-- what is kept of an open row: what it is to a Leaf in it
+abbrev pub keeps : RowHead → Parent
+keeps r = cond (r.code == code_number codes.Instruction) (instruction r.identifier) Other
 
 -- the acts of a Leaf: within an Instruction those of its kind, anywhere else the uses of its operands
-abbrev pub under_acts : Option (Option Instruction) → ℕ → ℕ → List IdentifierId → List IdentifierId → List Act
+abbrev pub under_acts : Option Parent → ℕ → ℕ → List IdentifierId → List IdentifierId → List Act
 under_acts None k mode ms os = map uses os
-under_acts (Some None) k mode ms os = map uses os
-under_acts (Some (Some i)) k mode ms os = leaf_acts i.lvalue k mode ms os
+under_acts (Some Other) k mode ms os = map uses os
+under_acts (Some WithoutLvalue) k mode ms os = leaf_acts None k mode ms os
+under_acts (Some (WithLvalue l)) k mode ms os = leaf_acts (Some l) k mode ms os
 
 -- the acts of a row that is entered within this parent: those of a Leaf, and of another row the use of its identifier, if its code uses it
-abbrev pub row_acts : Option (Option Instruction) → RowHead → List IdentifierId → List IdentifierId → List Act
+abbrev pub row_acts : Option Parent → RowHead → List IdentifierId → List IdentifierId → List Act
 row_acts p r ms os = cond (r.code == code_number codes.Leaf) (under_acts p r.kind r.mode ms os) (map uses (listed (used_in r.code r.identifier)))
 
 -- the acts of a row that is entered; a row that is left has none
-abbrev pub acts : Event (Option Instruction) → List Act
+abbrev pub acts : Event Parent → List Act
 acts (entering p r) = row_acts p (head r) r.marks r.operands
 acts (leaving i) = []
 
@@ -64,7 +71,7 @@ abbrev pub pass_acts : List IdentifierId → List Row → List Act
 pass_acts ps rs = map fixes ps ++ acts_of acts (events keeps [] rs)
 
 -- the tables and the epoch are such that the acts of an event can be done
-abbrev pub Readies : State → Event (Option Instruction) → Type 0
+abbrev pub Readies : State → Event Parent → Type 0
 Readies w e = Ready w (acts e)
 
 -- before the first act, in the first epoch

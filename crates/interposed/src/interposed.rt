@@ -141,15 +141,19 @@ impl PromoteInterposed {
     }
 }
 
-// An Instruction that is open.
-#[derive(Clone, Copy)]
-pub struct Instruction {
-    pub lvalue: Option<IdentifierId>,
+// What an open row is to a Leaf directly in it: an Instruction, with an lvalue or without one, or another row.
+// One value and no option of an option, since a walk puts one on its stack for each row.
+#[derive(Clone, Copy, Default)]
+pub enum Parent {
+    #[default]
+    Other,
+    WithoutLvalue,
+    WithLvalue(IdentifierId),
 }
 
 impl Visitor for PromoteInterposed {
-    // The Instruction, where the row is one.
-    type Kept = Option<Instruction>;
+    // What the row is to a Leaf in it.
+    type Kept = Parent;
 
     ghost keeps = { keeps };
 
@@ -157,10 +161,14 @@ impl Visitor for PromoteInterposed {
 
     ghost after = { acting does acts };
 
-    fn keep(row: &RowHead) -> Option<Instruction> {
-        row.is(Code::Instruction).then_some(Instruction {
-            lvalue: row.identifier,
-        })
+    fn keep(row: &RowHead) -> Parent {
+        if !row.is(Code::Instruction) {
+            return Parent::Other;
+        }
+        match row.identifier {
+            Some(lvalue) => Parent::WithLvalue(lvalue),
+            None => Parent::WithoutLvalue,
+        }
     }
 
     fn enter<S: TreeSource>(
@@ -175,12 +183,12 @@ impl Visitor for PromoteInterposed {
     {
         let head = row.head();
         if head.is(Code::Leaf) {
-            match parent {
-                Some(Some(instruction)) => {
-                    self.promote_interposed_instruction(env, scratch, instruction.lvalue, row)
-                }
-                _ => self.use_operands(env, scratch, row),
-            }
+            let lvalue = match parent {
+                Some(Parent::WithLvalue(lvalue)) => Some(lvalue),
+                Some(Parent::WithoutLvalue) => None,
+                _ => return self.use_operands(env, scratch, row),
+            };
+            self.promote_interposed_instruction(env, scratch, lvalue, row);
         } else if let Some(id) = head.used() {
             self.use_place(env, scratch, id);
         }

@@ -1,5 +1,5 @@
 -- A run that may name nothing journals nothing. Assumes nothing.
-use Rattle.std.proofs.Common.{◌≡◌, ℕ, Bool, true, false, cond, not, ◌&&◌, ◌||◌, eqb, List, [], ◌∷◌, ◌++◌, map, length, get_or, Some, None, Option, sym, refl, ap, ◌∙◌, subst, ⊎_elim, arith}
+use Rattle.std.proofs.Common.{◌≡◌, ℕ, Bool, true, false, cond, not, ◌&&◌, ◌||◌, eqb, List, [], ◌∷◌, ◌++◌, map, length, get_or, Some, None, Option, sym, refl, ap, ◌∙◌, subst, ⊎_elim}
 use Rattle.std.proofs.lemmas.Bool.{cases_Bool, cond_both, cond-true, cond-false, or_parts, and_parts, eqb-true}
 use Rattle.std.proofs.lemmas.List.{append-nil, nil_from_length}
 use Rattle.hir.specs.declared.ids.IdentifierId.{IdentifierId}
@@ -19,9 +19,10 @@ use Rattle.walk.specs.Events.{entering}
 use Rattle.walk.proofs.Fitting.{Within, each_acts, each_append, each_cond}
 use Rattle.promote.specs.Identifier.{is_unnamed}
 use Rattle.promote.specs.Temporaries as temporaries
-use Rattle.interposed.specs.declared.interposed.Instruction.{Instruction}
+use Rattle.interposed.specs.declared.interposed.Parent.{Parent}
+use Rattle.interposed.specs.declared.interposed.Parent.TheVariants.{Other, WithoutLvalue, WithLvalue}
 use Rattle.interposed.specs.Acts.{Act, uses, fixes, loads, takes, global, barrier, tracks}
-use Rattle.interposed.specs.Interposed.{fix_acts, marks_acts, value_acts, leaf_acts, keeps, under_acts, acts, pass_acts}
+use Rattle.interposed.specs.Interposed.{fix_acts, marks_acts, value_acts, leaf_acts, instruction, keeps, under_acts, acts, pass_acts}
 use Rattle.interposed.specs.Kinds.{is_load, is_property_load, is_global_load, is_barrier, fixes_marks, may_raise}
 use Rattle.instances.specs.Instances as instances
 use Rattle.reasons.specs.Journals.{names, is_named, firsts, declares}
@@ -136,27 +137,32 @@ module _ (m : Model) (named : ℕ → Bool) (fresh : (i : ℕ) → is_named m i 
       (each_append (Quiet named) (cond (may_raise k mode) (barrier l ∷ []) []) _ (each_cond (Quiet named) (may_raise k mode) (barrier l ∷ []) [] (quiet_barrier l e, tt) tt)
       (each_cond (Quiet named) (is_barrier k) (map tracks (listed l)) [] (quiet_tracks (listed l)) tt))))
 
-  -- the Instruction has an lvalue without a name
-  Temporary : Option Instruction → Type 0
-  Temporary o = (q : Instruction) → o ≡ Some q → no_temporary m q.lvalue ≡ false
+  -- an Instruction has an lvalue without a name
+  Temporary : Parent → Type 0
+  Temporary Other = Unit {0}
+  Temporary WithoutLvalue = ⊥
+  Temporary (WithLvalue l) = is_named m l.0 ≡ false
+
+  instruction_temporary : (o : Option IdentifierId) → no_temporary m o ≡ false → Temporary (instruction o)
+  unfolding Temporary
+  instruction_temporary None e = true_false true refl e
+  instruction_temporary (Some i) e = e
 
   kept_temporary : (r : Row) → is_statement m (head r) ≡ false → Temporary (keeps (head r))
   unfolding Temporary
-  kept_temporary r e q is =
-      ⊎_elim
-      (λ b.
-      let f : ◌≡◌ {A = Instruction} (record { lvalue = r.identifier }) q = let g : ◌≡◌ {A = Option Instruction} (Some (record { lvalue = r.identifier })) (Some q) = sym (cond-true _ _ _ b) ∙ is in cc in
-      subst (λ (x : Instruction). no_temporary m x.lvalue ≡ false) f (sym (ap (λ c. c && no_temporary m r.identifier) b) ∙ e))
-      (λ b. absurd (let f : ◌≡◌ {A = Option Instruction} None (Some q) = sym (cond-false _ _ _ b) ∙ is in let z : ◌≡◌ {A = ℕ} 0 1 = cc in omega arith))
-      (cases_Bool (eqb r.code 2))
+  kept_temporary r e =
+      cond_both (eqb r.code 2) (instruction r.identifier) Other Temporary
+      (λ b. instruction_temporary r.identifier (sym (ap (λ c. c && no_temporary m r.identifier) b) ∙ e))
+      (λ b. tt)
 
-  quiet_under : (p : Option (Option Instruction)) (r : Row) → Within Temporary p → Each (Quiet named) (under_acts p r.kind r.mode r.marks r.operands)
+  quiet_under : (p : Option Parent) (r : Row) → Within Temporary p → Each (Quiet named) (under_acts p r.kind r.mode r.marks r.operands)
   unfolding Temporary
   quiet_under None r w = quiet_uses r.operands
-  quiet_under (Some None) r w = quiet_uses r.operands
-  quiet_under (Some (Some q)) r w = quiet_leaf q.lvalue r.kind r.mode r.marks r.operands (w (Some q) refl q refl)
+  quiet_under (Some Other) r w = quiet_uses r.operands
+  quiet_under (Some WithoutLvalue) r w = absurd (w WithoutLvalue refl)
+  quiet_under (Some (WithLvalue l)) r w = quiet_leaf (Some l) r.kind r.mode r.marks r.operands (w (WithLvalue l) refl)
 
-  quiet_row : (p : Option (Option Instruction)) (r : Row) → Within Temporary p → is_statement m (head r) ≡ false → Each (Quiet named) (acts (entering p r))
+  quiet_row : (p : Option Parent) (r : Row) → Within Temporary p → is_statement m (head r) ≡ false → Each (Quiet named) (acts (entering p r))
   quiet_row p r w e = each_cond (Quiet named) (eqb r.code 5) _ _ (quiet_under p r w) (quiet_uses (listed (used_in r.code r.identifier)))
 
   quiet_rows : (own : List IdentifierId) (rs : List Row) → list_any (λ r. is_statement m (head r)) rs ≡ false → Each (Quiet named) (pass_acts own rs)
