@@ -41,11 +41,15 @@ impl RowEntry {
     }
 }
 
-// Identifier i of a list of the pool.
+// Identifier i of a list of the pool. Not of the list as a slice, which would be cut at the pool's end for each identifier.
+#[tactic(auto, using(crate::proofs::Places::in_list, crate::proofs::Places::beyond_list))]
 fn identifier_at(pool: &[u32], span: Span, i: usize) -> Option<IdentifierId>
     ensures { result ≡ slice_get (identifiers_in pool.now span) i }
 {
-    span.of(pool).get(i).map(|n| IdentifierId(*n))
+    if i >= span.count as usize {
+        return None;
+    }
+    pool.get(span.start as usize + i).map(|n| IdentifierId(*n))
 }
 
 // A table of rows whose lists are spans of a pool, cut at the pool's end.
