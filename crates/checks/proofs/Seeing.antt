@@ -1,7 +1,7 @@
 -- The loop over a tree's rows. Assumes nothing.
-use Rattle.std.proofs.Common.{◌≡◌, ℕ, ◌+◌, ◌<◌, ◌≤◌, Bool, true, false, ◌||◌, cond, eqb, ltb, leb, [], ◌∷◌, length, is_some, Some, None, Option, unwrap_or, sym, ap, ◌∙◌, arith}
-use Rattle.std.proofs.Math.Bool.{or_assoc, or-false}
-use Rattle.std.proofs.lemmas.Bool.{cond-true, cond-false, lt-ltb, le-ltb, or_parts, leb-false}
+use Rattle.std.proofs.Common.{◌≡◌, ℕ, ◌+◌, ◌<◌, ◌≤◌, Bool, true, false, ◌&&◌, ◌||◌, cond, eqb, ltb, leb, [], ◌∷◌, length, is_some, Some, None, Option, unwrap_or, sym, ap, ◌∙◌, arith}
+use Rattle.std.proofs.Math.Bool.{or_assoc, or-false, or-true}
+use Rattle.std.proofs.lemmas.Bool.{cond-true, cond-false, eqb-true, lt-ltb, le-ltb, or_parts, leb-false}
 use Rattle.hir.specs.declared.refusal.Refusal.{Refusal}
 use Rattle.hir.specs.declared.refusal.Refusal.TheVariants as refusals
 use Rattle.hir.specs.Environments.{Model}
@@ -9,7 +9,7 @@ use Rattle.std.specs.List.{list_any}
 use Rattle.hir.specs.Refusals.{refused_if}
 use Rattle.reactive.specs.declared.row.RowHead.{RowHead}
 use Rattle.reactive.specs.Rows.{Row, Reading, head, upcoming, advanced, given, left, last_row, no_row, scope_rows}
-use Rattle.reactive.specs.Statements.{is_statement}
+use Rattle.reactive.specs.Statements.{no_temporary, is_statement}
 use Rattle.reactive.proofs.Steps as steps
 use Rattle.checks.specs.Rows.{sizes, Open, row_passes_limit, opened, shaped, wrong_fields, ended, rows_refusal}
 
@@ -25,6 +25,16 @@ pub record Seen (m : Model) (start s : Reading) (stack : Open) (seen scopes : �
   pub few : scopes ≤ seen
   pub limit : seen ≤ 262144
   pub some : statements || list_any (stands m) (left s) ≡ list_any (stands m) start.rows
+
+-- a Scope row is no statement
+pub no_statement : (m : Model) (row : RowHead) → true ≡ eqb row.code 3 → is_statement m row ≡ false
+no_statement m row e = ap (λ n. eqb n 2 && no_temporary m row.identifier) (eqb-true row.code 3 (sym e))
+
+pub unless_stands : (some : Bool) {b : Bool} → b ≡ false → some ≡ some || b
+unless_stands some e = sym (ap (λ x. some || x) e ∙ or-false some)
+
+pub once_stands : (some : Bool) {b : Bool} → b ≡ true → true ≡ some || b
+once_stands some e = sym (ap (λ x. some || x) e ∙ or-true some)
 
 -- one row more is given
 module _ {m : Model} {start s : Reading} {stack : Open} {seen scopes : ℕ} {statements : Bool} (inv : Seen m start s stack seen scopes statements) {t : Reading} (row : RowHead) (gave : Some row ≡ upcoming s) (on : t ≡ advanced s) where

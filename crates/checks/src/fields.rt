@@ -58,17 +58,18 @@ fn wrong_number(sizes: Sizes, code: Code, row: &RowHead) -> bool
     }
 }
 
-// Whether the byte is no mode, or there is one where the kind has none: there it is 0, which is no mode then.
+// Whether the byte is no mode, or there is one where the kind has none. 0 is right for every kind: the mode Const, or none.
 fn wrong_mode(kind: Kind, mode: u8) -> bool
     ensures { result ≡ wrong_mode (kind_number kind) mode }
 {
     match kind {
+        _ if mode == 0 => false,
         Kind::DeclareLocal
         | Kind::DeclareContext
         | Kind::StoreLocal
         | Kind::StoreContext
         | Kind::Destructure => Mode::try_from(mode).is_err(),
-        _ => mode != 0,
+        _ => true,
     }
 }
 

@@ -74,8 +74,9 @@ fn check_all<S: TreeSource>(source: &mut S, env: &Environment) -> Result<(usize,
         // Of the row: the byte is counted, and that no other code has its number would take a proof by the 24 codes.
         if row.is(Code::Scope) {
             scopes += 1;
+        } else if is_statement(env, &row) {
+            statements = true;
         }
-        statements = statements || is_statement(env, &row);
         seen += 1;
     }
     stack.finish()?;

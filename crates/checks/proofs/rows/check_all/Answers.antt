@@ -11,7 +11,7 @@ use Rattle.checks.proofs.Answering.{refuses, hands_on, refused_by, not_refused, 
 use Rattle.checks.proofs.Seeing as seeing
 use Rattle.checks.proofs.Slots.{opened_none}
 use Rattle.checks.proofs.rows.check_all.Goals as goal
-use Rattle.checks.proofs.rows.check_all.Goals.{then-is, else-is, then-statements, else-statements}
+use Rattle.checks.proofs.rows.check_all.Goals.{then-is, else-is+then-is_statement, else-is+else-is_statement}
 
 pub returns-then-passes_limit : goal.returns-then-passes_limit
 returns-then-passes_limit g c =
@@ -74,14 +74,10 @@ pub loop-row-preserved : goal.loop-row-preserved
 loop-row-preserved g c =
     let opens = ap (opened c.loop-row.stack c.in-Some.row.depth) (sym c.in-Ok.ensures) ∙ c.in_ok-enter.ensures.rows in
     let right = c.if-wrong_fields.ensures ∙ (λ k. wrong_fields (c.from-sizes.ensures k) (c.new.ensures k)) in
-    let is : c.if-is.scopes ≡ c.loop-row.scopes + cond (eqb c.in-Some.row.code 3) 1 0 = elim c.if-is.branch [ then-is w ↦ grind (arith, nat_tests) | else-is w ↦ grind (arith, nat_tests) ] in
-    let few : c.if-is.scopes ≤ c.loop-row.seen + 1 = elim c.if-is.branch [ then-is w ↦ omega (arith, w.scopes-is, c.loop-row.invariant.few) | else-is w ↦ omega (arith, w.scopes-is, c.loop-row.invariant.few) ] in
-    let stands = is_statement (model c.args.env.now) c.in-Some.row in
-    let so : c.if-statements.statements ≡ c.loop-row.statements || stands =
-    elim c.if-statements.branch [
-      | then-statements w ↦ w.statements-is ∙ w.if-statements.true ∙ ap (λ b. b || stands) (sym w.if-statements.true)
-      | else-statements w ↦ w.statements-is ∙ w.is_statement-statements.ensures ∙ ap (λ b. b || stands) (sym w.if-statements.false)
-    ] in
+    let is : c.if-is.scopes ≡ c.loop-row.scopes + cond (eqb c.in-Some.row.code 3) 1 0 = elim c.if-is.branch [ then-is w ↦ grind (arith, nat_tests) | else-is+then-is_statement w ↦ grind (arith, nat_tests) | else-is+else-is_statement w ↦ grind (arith, nat_tests) ] in
+    let few : c.if-is.scopes ≤ c.loop-row.seen + 1 = elim c.if-is.branch [ then-is w ↦ omega (arith, w.scopes-is, c.loop-row.invariant.few) | else-is+then-is_statement w ↦ omega (arith, w.scopes-is, c.loop-row.invariant.few) | else-is+else-is_statement w ↦ omega (arith, w.scopes-is, c.loop-row.invariant.few) ] in
+    let m = model c.args.env.now in
+    let so : c.if-is.statements ≡ c.loop-row.statements || is_statement m c.in-Some.row = elim c.if-is.branch [ then-is w ↦ w.statements-is ∙ seeing.unless_stands c.loop-row.statements (seeing.no_statement m c.in-Some.row w.if-is.ensures) | else-is+then-is_statement w ↦ w.statements-is ∙ seeing.once_stands c.loop-row.statements (sym w.if-is_statement.ensures) | else-is+else-is_statement w ↦ w.statements-is ∙ seeing.unless_stands c.loop-row.statements (sym w.if-is_statement.ensures) ] in
     seeing.seen_on c.loop-row.invariant c.in-Some.row c.in-Some.ensures.value c.next.ensures.after c.if-passes_limit.ensures c.if-depth-ge-MOST_OPEN.false c.enter.new.self opens right _ is few _ so
 
 pub returns-in_err-finish-clause-value : goal.returns-in_err-finish-clause-value
