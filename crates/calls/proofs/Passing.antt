@@ -44,7 +44,7 @@ use Rattle.instances.proofs.Passes as instancing
 use Rattle.reasons.specs.Coverings.{journal, ran, upper}
 use Rattle.reasons.specs.Passes.{reset, passed}
 use Rattle.reasons.specs.Journals.{name_all}
-use Rattle.reasons.specs.Laws.{may_name}
+use Rattle.reasons.specs.Laws.{can_name}
 use Rattle.reasons.proofs.Idle.{idle_runs}
 use Rattle.reasons.proofs.Runs.{blank_row, passed_ran}
 use Rattle.calls.specs.Steps.{Names, RunStep}
@@ -247,8 +247,8 @@ module _ (b t : Tables) (ps : Span) (rs : List Row) (e : run_refusal b.env b.not
         sizes = record { work = grew.work; marks = grew.marks; trail = grew.trail };
       }
 
--- a run that may name nothing leaves the environment as it is
-module _ (m : Model) (n : Notes) (ps : Span) (rs : List Row) (e : run_refusal m n ps rs ≡ None) (idle : may_name m ps rs ≡ false) where
+-- a run that can name nothing leaves the environment as it is
+module _ (m : Model) (n : Notes) (ps : Span) (rs : List Row) (e : run_refusal m n ps rs ≡ None) (idle : can_name m ps rs ≡ false) where
   names_none : Names m [] m
   names_none = record {
     unnamed = tt;

@@ -4,11 +4,11 @@ ghost use Rattle.hir.specs.Environments.{model};
 ghost use Rattle.hir.specs.Scratches.{noted, tables};
 ghost use Rattle.hir.specs.Refusals.{answered};
 ghost use Rattle.hir.specs.Spans.{ident, identifiers_in};
-ghost use Rattle.reactive.specs.Rows.{Reading, head, rewound};
-ghost use Rattle.reactive.specs.Statements.{is_statement};
+ghost use Rattle.reactive.specs.Rows.{Reading, rewound};
+ghost use Rattle.reactive.specs.Lvalues.{some_without_temporary};
 ghost use Rattle.promote.specs.Identifier.{is_unnamed};
 ghost use Rattle.checks.specs.Rows.{run_refusal};
-ghost use Rattle.reasons.specs.Laws.{takes_names};
+ghost use Rattle.reasons.specs.Laws.{tables_can_name};
 ghost use Rattle.reasons.specs.Passes.{passed};
 ghost use Rattle.calls.specs.Steps.{RunStep};
 
@@ -16,6 +16,7 @@ use checks::rows::check_rows;
 use checks::tables::check_tables;
 use collect::promotable::collect_promotable;
 use hir::environment::Environment;
+use hir::ids::IdentifierId;
 use hir::refusal::Refusal;
 use hir::scratch::Scratch;
 use hir::span::Span;
@@ -42,14 +43,14 @@ fn promote_used_temporaries<S: TreeSource>(
     promote_all_instances(source, env, scratch, parameters);
 }
 
-// What is wrong with the tables, the parameters, scratch or the rows, and else whether some row is a statement.
+// What is wrong with the tables, the parameters, scratch or the rows, and else whether some row is an Instruction whose lvalue is absent or named.
 fn check_run<S: TreeSource>(
     env: &Environment,
     scratch: &Scratch,
     source: &mut S,
     parameters: Span,
 ) -> Result<bool, Refusal>
-    ensures value { result ≡ answered (run_refusal (model env.now) (noted scratch.now) parameters (S.TreeSource.reading source.old).rows) (list_any (λ r. is_statement (model env.now) (head r)) (S.TreeSource.reading source.old).rows) }
+    ensures value { result ≡ answered (run_refusal (model env.now) (noted scratch.now) parameters (S.TreeSource.reading source.old).rows) (some_without_temporary (model env.now) (S.TreeSource.reading source.old).rows) }
     ensures source { S.TreeSource.reading source.new ≡ rewound (S.TreeSource.reading source.old) }
 {
     source.rewind();
@@ -57,21 +58,11 @@ fn check_run<S: TreeSource>(
     check_rows(source, env, scratch)
 }
 
-// Whether an identifier has no name; one without a row has none either.
-fn lacks_name(env: &Environment, n: u32) -> bool
-    ensures { result ≡ is_unnamed (model env.now) (ident n) }
-{
-    match env.identifiers.get(n as usize) {
-        Some(identifier) => identifier.is_unnamed(),
-        None => true,
-    }
-}
-
 // Whether some identifier of these numbers has no name.
 fn some_lacks_name(env: &Environment, numbers: &[u32]) -> bool
     ensures { result ≡ list_any (λ n. is_unnamed (model env.now) (ident n)) numbers.now }
 {
-    numbers.iter().any(|n| lacks_name(env, *n))
+    numbers.iter().any(|n| env.lacks_name(IdentifierId(*n)))
 }
 
 // Whether some identifier of a list has no name.
@@ -81,11 +72,11 @@ fn some_unnamed(env: &Environment, list: Span) -> bool
     some_lacks_name(env, list.of(env.pool))
 }
 
-// Whether a run may name something: some row is a statement, or there is a scope, a function or an own parameter without a name.
-fn may_name(env: &Environment, parameters: Span, statements: bool) -> bool
-    ensures { result ≡ (statements || takes_names (model env.now) parameters) }
+// Whether a run can name something: some Instruction's lvalue is absent or named, or there is a scope, a function or an own parameter without a name.
+fn can_name(env: &Environment, parameters: Span, some_without: bool) -> bool
+    ensures { result ≡ (some_without || tables_can_name (model env.now) parameters) }
 {
-    statements
+    some_without
         || !env.scopes.is_empty()
         || !env.functions.is_empty()
         || some_unnamed(env, parameters)
@@ -102,10 +93,10 @@ pub fn run<S: TreeSource>(
     ensures step { RunStep (model env.old) (noted scratch.old) parameters (S.TreeSource.reading source.old).rows result (model env.new) (noted scratch.new) }
     ensures source { S.TreeSource.reading source.new ≡ rewound (S.TreeSource.reading source.old) }
 {
-    let statements = check_run(env, scratch, source, parameters)?;
+    let some_without = check_run(env, scratch, source, parameters)?;
     let first = env.count;
     // Else nothing is named: `idle_runs_journal_nothing`.
-    if may_name(env, parameters, statements) {
+    if can_name(env, parameters, some_without) {
         promote_used_temporaries(env, scratch, source, parameters);
     }
     Ok((first, env.count - first))

@@ -6,6 +6,7 @@ use Rattle.std.proofs.lemmas.List.{reverse-append, length-reverse, take-append-d
 use Rattle.std.proofs.lemmas.List.Folds.{list_any-append}
 use Rattle.std.proofs.Math.Bool.{or_comm, or-false}
 use Rattle.std.proofs.Math.Seq.{take-append_seam, drop-append_seam}
+use Rattle.hir.proofs.Lists.{any_map}
 use Rattle.checks.specs.declared.grammar.Places.{Places}
 use Rattle.checks.specs.Grammar.{slots, lacking}
 use Rattle.checks.specs.Rows.{Open, wrong_depth, closing, staying, placed, opened}
@@ -34,10 +35,6 @@ any_reverse p (x ∷ xs) =
     ∙ list_any-append p (reverse xs) (x ∷ [])
     ∙ or_comm (list_any p (reverse xs)) (p x || list_any p [])
     ∙ (λ i. or-false (p x) i || any_reverse p xs i)
-
-any_map : {A B : Type 0} (f : A → B) (p : B → Bool) (xs : List A) → list_any p (map f xs) ≡ list_any (λ x. p (f x)) xs
-any_map f p [] = refl
-any_map f p (x ∷ xs) = ap (λ b. p (f x) || b) (any_map f p xs)
 
 -- a row whose depth is right, where no row that it closes lacks a child, is put within those that stay
 pub opened_placed : (os : Open) (xs ys : List Places) (d c : ℕ) → reverse (seen xs) ≡ os → ys ≡ take d xs → wrong_depth os d ≡ false → list_any lacking (closing os d) ≡ false → opened os d c ≡ placed (reverse (seen ys)) c

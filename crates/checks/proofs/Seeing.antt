@@ -5,39 +5,34 @@ use Rattle.std.proofs.lemmas.Bool.{cond-true, cond-false, eqb-true, lt-ltb, le-l
 use Rattle.hir.specs.declared.refusal.Refusal.{Refusal}
 use Rattle.hir.specs.declared.refusal.Refusal.TheVariants as refusals
 use Rattle.hir.specs.Environments.{Model}
-use Rattle.std.specs.List.{list_any}
 use Rattle.hir.specs.Refusals.{refused_if}
 use Rattle.reactive.specs.declared.row.RowHead.{RowHead}
-use Rattle.reactive.specs.Rows.{Row, Reading, head, upcoming, advanced, given, left, last_row, no_row, scope_rows}
-use Rattle.reactive.specs.Statements.{no_temporary, is_statement}
+use Rattle.reactive.specs.Rows.{Reading, head, upcoming, advanced, given, left, last_row, no_row, scope_rows}
+use Rattle.reactive.specs.Lvalues.{absent_or_named, without_temporary, some_without_temporary}
 use Rattle.reactive.proofs.Steps as steps
 use Rattle.checks.specs.Rows.{sizes, Open, row_passes_limit, opened, shaped, wrong_fields, ended, rows_refusal}
 
--- a row is a statement
-abbrev pub stands : Model → Row → Bool
-stands m r = is_statement m (head r)
-
 -- the rows so far are sound: what is left decides
-pub record Seen (m : Model) (start s : Reading) (stack : Open) (seen scopes : ℕ) (statements : Bool) : Type 0 where
+pub record Seen (m : Model) (start s : Reading) (stack : Open) (seen scopes : ℕ) (some : Bool) : Type 0 where
   pub same : s.rows ≡ start.rows
   pub refusal : rows_refusal (sizes m) seen stack (left s) ≡ rows_refusal (sizes m) 0 [] start.rows
   pub sum : scopes + scope_rows (left s) ≡ scope_rows start.rows
   pub few : scopes ≤ seen
   pub limit : seen ≤ 262144
-  pub some : statements || list_any (stands m) (left s) ≡ list_any (stands m) start.rows
+  pub found : some || some_without_temporary m (left s) ≡ some_without_temporary m start.rows
 
--- a Scope row is no statement
-pub no_statement : (m : Model) (row : RowHead) → true ≡ eqb row.code 3 → is_statement m row ≡ false
-no_statement m row e = ap (λ n. eqb n 2 && no_temporary m row.identifier) (eqb-true row.code 3 (sym e))
+-- a Scope row is no Instruction
+pub no_instruction : (m : Model) (row : RowHead) → true ≡ eqb row.code 3 → without_temporary m row ≡ false
+no_instruction m row e = ap (λ n. eqb n 2 && absent_or_named m row.identifier) (eqb-true row.code 3 (sym e))
 
-pub unless_stands : (some : Bool) {b : Bool} → b ≡ false → some ≡ some || b
-unless_stands some e = sym (ap (λ x. some || x) e ∙ or-false some)
+pub or_fails : (some : Bool) {b : Bool} → b ≡ false → some ≡ some || b
+or_fails some e = sym (ap (λ x. some || x) e ∙ or-false some)
 
-pub once_stands : (some : Bool) {b : Bool} → b ≡ true → true ≡ some || b
-once_stands some e = sym (ap (λ x. some || x) e ∙ or-true some)
+pub or_holds : (some : Bool) {b : Bool} → b ≡ true → true ≡ some || b
+or_holds some e = sym (ap (λ x. some || x) e ∙ or-true some)
 
 -- one row more is given
-module _ {m : Model} {start s : Reading} {stack : Open} {seen scopes : ℕ} {statements : Bool} (inv : Seen m start s stack seen scopes statements) {t : Reading} (row : RowHead) (gave : Some row ≡ upcoming s) (on : t ≡ advanced s) where
+module _ {m : Model} {start s : Reading} {stack : Open} {seen scopes : ℕ} {some : Bool} (inv : Seen m start s stack seen scopes some) {t : Reading} (row : RowHead) (gave : Some row ≡ upcoming s) (on : t ≡ advanced s) where
   last_is : (got : steps.Gives s row) → last_row t ≡ got.item
   last_is got = ap last_row on ∙ ap (λ o. unwrap_or o no_row) got.last
 
@@ -89,7 +84,7 @@ module _ {m : Model} {start s : Reading} {stack : Open} {seen scopes : ℕ} {sta
         over_field e = further (Some after) opens ∙ cond-true _ _ _ (sym e)
 
         -- the row is sound, so that the rows after it decide
-        pub seen_on : false ≡ wrong_fields (sizes m) (last_row t) → (n : ℕ) → n ≡ scopes + cond (eqb row.code 3) 1 0 → n ≤ seen + 1 → (b : Bool) → b ≡ statements || is_statement m row → Seen m start t after (seen + 1) n b
+        pub seen_on : false ≡ wrong_fields (sizes m) (last_row t) → (n : ℕ) → n ≡ scopes + cond (eqb row.code 3) 1 0 → n ≤ seen + 1 → (b : Bool) → b ≡ some || without_temporary m row → Seen m start t after (seen + 1) n b
         unfolding opened_then
         seen_on e n is few b so =
             let low : seen < 262144 = leb-false 262144 seen (or_parts (leb 262144 seen) _ (sym in_limit)).0 in
@@ -100,23 +95,23 @@ module _ {m : Model} {start s : Reading} {stack : Open} {seen scopes : ℕ} {sta
               sum = omega (arith, inv.sum);
               few = few;
               limit = omega arith;
-              some =
-                  ap (λ x. x || list_any (stands m) (left t)) (so ∙ ap (λ (h : RowHead). statements || is_statement m h) row_head)
-                  ∙ or_assoc statements (stands m (last_row t)) (list_any (stands m) (left t))
-                  ∙ ap (λ xs. statements || list_any (stands m) xs) (sym rest_is)
-                  ∙ inv.some;
+              found =
+                  ap (λ x. x || some_without_temporary m (left t)) (so ∙ ap (λ (h : RowHead). some || without_temporary m h) row_head)
+                  ∙ or_assoc some (without_temporary m (head (last_row t))) (some_without_temporary m (left t))
+                  ∙ ap (λ xs. some || some_without_temporary m xs) (sym rest_is)
+                  ∙ inv.found;
             }
 
 -- no row is left
-module _ {m : Model} {start s : Reading} {stack : Open} {seen scopes : ℕ} {statements : Bool} (inv : Seen m start s stack seen scopes statements) (gave : None ≡ upcoming s) where
+module _ {m : Model} {start s : Reading} {stack : Open} {seen scopes : ℕ} {some : Bool} (inv : Seen m start s stack seen scopes some) (gave : None ≡ upcoming s) where
   pub ends : rows_refusal (sizes m) 0 [] start.rows ≡ ended stack
   ends = sym inv.refusal ∙ ap (rows_refusal (sizes m) seen stack) (steps.ended s gave).0
 
   pub counted : scopes ≡ scope_rows start.rows
   counted = let e = ap scope_rows (steps.ended s gave).0 in omega (arith, inv.sum)
 
-  pub some_stands : statements ≡ list_any (stands m) start.rows
-  some_stands = sym (or-false statements) ∙ ap (λ xs. statements || list_any (stands m) xs) (sym (steps.ended s gave).0) ∙ inv.some
+  pub found_all : some ≡ some_without_temporary m start.rows
+  found_all = sym (or-false some) ∙ ap (λ xs. some || some_without_temporary m xs) (sym (steps.ended s gave).0) ∙ inv.found
 
   pub rows_kept : {t : Reading} → t ≡ advanced s → t.rows ≡ start.rows
   rows_kept on = ap (λ (r : Reading). r.rows) on ∙ inv.same

@@ -12,6 +12,7 @@ use Rattle.hir.specs.declared.tables.Identifier.{Identifier}
 use Rattle.hir.specs.declared.tables.Scope.{Scope}
 use Rattle.hir.specs.declared.tables.Function.{Function}
 use Rattle.hir.specs.Environments.{Model, no_identifier, no_scope, no_function, row_of, scope_of, function_of, unnamed}
+use Rattle.hir.proofs.Lists.{each_none}
 use Rattle.hir.specs.Lists.{Each}
 use Rattle.std.specs.List.{list_any}
 use Rattle.hir.specs.Refusals.{refused_if, or_else}
@@ -44,10 +45,6 @@ none_at p (x ∷ xs) e (suc k) h d = none_at p xs (or_parts (p x) (list_any p xs
 each_of : {A B : Type 0} (p : A → Bool) (f : A → B) (Q : B → Type 0) → ((x : A) → p x ≡ false → Q (f x)) → (xs : List A) → list_any p xs ≡ false → Each Q (map f xs)
 each_of p f Q each [] e = tt
 each_of p f Q each (x ∷ xs) e = let h = or_parts (p x) (list_any p xs) e in (each x h.0, each_of p f Q each xs h.1)
-
-each_none : {A : Type 0} (p : A → Bool) (Q : A → Type 0) → ((x : A) → p x ≡ false → Q x) → (xs : List A) → list_any p xs ≡ false → Each Q xs
-each_none p Q each [] e = tt
-each_none p Q each (x ∷ xs) e = let h = or_parts (p x) (list_any p xs) e in (each x h.0, each_none p Q each xs h.1)
 
 -- ---- tables
 

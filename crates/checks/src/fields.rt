@@ -58,7 +58,7 @@ fn wrong_number(sizes: Sizes, code: Code, row: &RowHead) -> bool
     }
 }
 
-// Whether the byte is no mode, or there is one where the kind has none. 0 is right for every kind: the mode Const, or none.
+// Whether the byte is no mode, or there is one where the kind has none. Whether it is 0 is asked first, since 0 is right for every kind: as the mode Const, or as none.
 fn wrong_mode(kind: Kind, mode: u8) -> bool
     ensures { result ≡ wrong_mode (kind_number kind) mode }
 {

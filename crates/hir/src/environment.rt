@@ -57,4 +57,14 @@ impl<'a> Environment<'a> {
         let identifier = self.identifiers[id.0 as usize];
         identifier.is_unnamed()
     }
+
+    // Whether an identifier lacks a name; one without a row has none either.
+    pub fn lacks_name(&self, id: IdentifierId) -> bool
+        ensures { result ≡ (tag_of (model self.now) id.0 == 0) }
+    {
+        match self.identifiers.get(id.0 as usize) {
+            Some(identifier) => identifier.is_unnamed(),
+            None => true,
+        }
+    }
 }

@@ -162,10 +162,6 @@ module _ (m : Model) where
       (each_append (Fits m) (cond (may_raise k mode) (barrier l ∷ []) []) _ (each_cond (Fits m) (may_raise k mode) (barrier l ∷ []) [] (hl, tt) tt)
       (each_cond (Fits m) (is_barrier k) (map tracks (listed l)) [] (fits_tracks l hl) tt))))
 
-  known_if : (o : Option IdentifierId) → ((i : IdentifierId) → o ≡ Some i → Known m i) → KnownIf m o
-  known_if None h = tt
-  known_if (Some i) h = h i refl
-
   -- the lvalue of an Instruction has a row
   Lvalue : Parent → Type 0
   Lvalue Other = Unit {0}

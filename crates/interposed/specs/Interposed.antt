@@ -46,7 +46,7 @@ abbrev pub instruction : Option IdentifierId → Parent
 instruction None = WithoutLvalue
 instruction (Some l) = WithLvalue l
 
--- what is kept of an open row: what it is to a Leaf in it
+-- what is kept of an open row: whether it is an Instruction, and its lvalue
 abbrev pub keeps : RowHead → Parent
 keeps r = cond (r.code == code_number codes.Instruction) (instruction r.identifier) Other
 

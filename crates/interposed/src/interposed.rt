@@ -141,8 +141,8 @@ impl PromoteInterposed {
     }
 }
 
-// What an open row is to a Leaf directly in it: an Instruction, with an lvalue or without one, or another row.
-// One value and no option of an option, since a walk puts one on its stack for each row.
+// An open row: an Instruction with this lvalue, an Instruction without one, or another row.
+// No option of an option, which takes half as much room again on the stack of a walk.
 #[derive(Clone, Copy, Default)]
 pub enum Parent {
     #[default]
@@ -152,7 +152,7 @@ pub enum Parent {
 }
 
 impl Visitor for PromoteInterposed {
-    // What the row is to a Leaf in it.
+    // Whether the row is an Instruction, and its lvalue.
     type Kept = Parent;
 
     ghost keeps = { keeps };
@@ -183,12 +183,15 @@ impl Visitor for PromoteInterposed {
     {
         let head = row.head();
         if head.is(Code::Leaf) {
-            let lvalue = match parent {
-                Some(Parent::WithLvalue(lvalue)) => Some(lvalue),
-                Some(Parent::WithoutLvalue) => None,
-                _ => return self.use_operands(env, scratch, row),
-            };
-            self.promote_interposed_instruction(env, scratch, lvalue, row);
+            match parent {
+                Some(Parent::WithLvalue(lvalue)) => {
+                    self.promote_interposed_instruction(env, scratch, Some(lvalue), row)
+                }
+                Some(Parent::WithoutLvalue) => {
+                    self.promote_interposed_instruction(env, scratch, None, row)
+                }
+                _ => self.use_operands(env, scratch, row),
+            }
         } else if let Some(id) = head.used() {
             self.use_place(env, scratch, id);
         }

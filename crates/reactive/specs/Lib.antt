@@ -5,4 +5,4 @@ pub mod Tables
 pub mod Sound
 pub mod Kinds
 pub mod Given
-pub mod Statements
+pub mod Lvalues

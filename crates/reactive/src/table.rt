@@ -10,6 +10,7 @@ use hir::ids::IdentifierId;
 use hir::span::Span;
 
 // A row whose lists are spans of a pool. Its bytes are unchecked, as in `RowHead`.
+// The three bytes stand together: in the order of `RowHead` a row takes 48 bytes and not 44.
 // No generic row for both: one with spans does not become one with lengths but field by field.
 #[derive(Clone, Copy, Default)]
 pub struct RowEntry {
@@ -41,7 +42,7 @@ impl RowEntry {
     }
 }
 
-// Identifier i of a list of the pool. Not of the list as a slice, which would be cut at the pool's end for each identifier.
+// Identifier i of a list of the pool, by its place in the pool: `Span::of` would cut the list at the pool's end each time.
 #[tactic(auto, using(crate::proofs::Places::in_list, crate::proofs::Places::beyond_list))]
 fn identifier_at(pool: &[u32], span: Span, i: usize) -> Option<IdentifierId>
     ensures { result ≡ slice_get (identifiers_in pool.now span) i }

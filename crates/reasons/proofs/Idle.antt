@@ -1,6 +1,6 @@
--- A run that may name nothing journals nothing. Assumes nothing.
+-- A run that can name nothing journals nothing. Assumes nothing.
 use Rattle.std.proofs.Common.{◌≡◌, ℕ, Bool, true, false, cond, not, ◌&&◌, ◌||◌, eqb, List, [], ◌∷◌, ◌++◌, map, length, get_or, Some, None, Option, sym, refl, ap, ◌∙◌, subst, ⊎_elim}
-use Rattle.std.proofs.lemmas.Bool.{cases_Bool, cond_both, cond-true, cond-false, or_parts, and_parts, eqb-true}
+use Rattle.std.proofs.lemmas.Bool.{cases_Bool, cond_both, cond-true, cond-false, or_parts, and_parts, eqb-true, not-false}
 use Rattle.std.proofs.lemmas.List.{append-nil, nil_from_length}
 use Rattle.hir.specs.declared.ids.IdentifierId.{IdentifierId}
 use Rattle.hir.specs.declared.span.Span.{Span}
@@ -9,12 +9,13 @@ use Rattle.hir.specs.declared.tables.Reason.{Reason}
 use Rattle.hir.specs.declared.tables.Reason.TheVariants as reasons
 use Rattle.hir.specs.declared.tables.Scope.{Scope}
 use Rattle.hir.specs.Environments.{Model, no_scope, declaration_of, scope_of}
+use Rattle.hir.proofs.Lists.{each_none}
 use Rattle.hir.specs.Lists.{Each}
 use Rattle.std.specs.List.{fold, filter, list_any}
 use Rattle.hir.specs.Spans.{identifiers_in}
 use Rattle.reactive.specs.Codes.{listed, used_in}
 use Rattle.reactive.specs.Rows.{Row, head}
-use Rattle.reactive.specs.Statements.{no_temporary, is_statement}
+use Rattle.reactive.specs.Lvalues.{absent_or_named, without_temporary, some_without_temporary}
 use Rattle.walk.specs.Events.{entering}
 use Rattle.walk.proofs.Fitting.{Within, each_acts, each_append, each_cond}
 use Rattle.promote.specs.Identifier.{is_unnamed}
@@ -29,113 +30,109 @@ use Rattle.reasons.specs.Journals.{names, is_named, firsts, declares}
 use Rattle.reasons.specs.Escapes.{escaped}
 use Rattle.reasons.specs.Interposed.{Known, if, act, finds, fixing, globally, tracking, nothing, interposed}
 use Rattle.reasons.specs.Coverings.{covers, Covered, reaching, covering, early, named_then, between, before, visits, late, journal}
-use Rattle.reasons.specs.Laws.{takes_names, may_name, IdleRuns}
+use Rattle.reasons.specs.Laws.{tables_can_name, can_name, IdleRuns}
 use Rattle.reasons.proofs.Bools.{and_false, true_false}
 
 none_kept : {A : Type 0} (p : A → Bool) → ((x : A) → p x ≡ false) → (xs : List A) → filter p xs ≡ []
 none_kept p none [] = refl
 none_kept p none (x ∷ xs) = cond-false _ _ _ (none x) ∙ none_kept p none xs
 
-each_fails : {A : Type 0} (p : A → Bool) (xs : List A) → list_any p xs ≡ false → Each (λ x. p x ≡ false) xs
-each_fails p [] e = tt
-each_fails p (x ∷ xs) e = let h = or_parts (p x) (list_any p xs) e in (h.0, each_fails p xs h.1)
-
--- acts by which nothing is found: no barrier is raised, where these have a name
-Quiet : (ℕ → Bool) → Act → Type 0
-Quiet named (uses x) = Unit {0}
-Quiet named (fixes x) = Unit {0}
-Quiet named (loads l x) = Unit {0}
-Quiet named (takes l x) = Unit {0}
-Quiet named (global l) = Unit {0}
-Quiet named (barrier None) = ⊥
-Quiet named (barrier (Some l)) = named l.0 ≡ false
-Quiet named (tracks l) = Unit {0}
+-- the act raises no barrier, where these have a name
+RaisesNone : (ℕ → Bool) → Act → Type 0
+RaisesNone named (uses x) = Unit {0}
+RaisesNone named (fixes x) = Unit {0}
+RaisesNone named (loads l x) = Unit {0}
+RaisesNone named (takes l x) = Unit {0}
+RaisesNone named (global l) = Unit {0}
+RaisesNone named (barrier None) = ⊥
+RaisesNone named (barrier (Some l)) = named l.0 ≡ false
+RaisesNone named (tracks l) = Unit {0}
 
 -- nothing is exposed, and nothing found
-record Calm (named : ℕ → Bool) (s : Known) : Type 0 where
+record NoneExposed (named : ℕ → Bool) (s : Known) : Type 0 where
   pub same : s.named ≡ named
   pub exposed : (i : ℕ) → s.exposed i ≡ false
   pub found : s.found ≡ []
 
 module _ (named : ℕ → Bool) where
-  calm_fixing : (x : ℕ) (s : Known) → Calm named s → Calm named (fixing x s)
-  calm_fixing x s c = record { same = c.same; exposed = c.exposed; found = c.found }
+  exposed_by_fixing : (x : ℕ) (s : Known) → NoneExposed named s → NoneExposed named (fixing x s)
+  exposed_by_fixing x s c = record { same = c.same; exposed = c.exposed; found = c.found }
 
-  calm_globally : (x : ℕ) (s : Known) → Calm named s → Calm named (globally x s)
-  calm_globally x s c = record { same = c.same; exposed = c.exposed; found = c.found }
+  exposed_by_globally : (x : ℕ) (s : Known) → NoneExposed named s → NoneExposed named (globally x s)
+  exposed_by_globally x s c = record { same = c.same; exposed = c.exposed; found = c.found }
 
-  calm_tracking : (x : ℕ) (s : Known) → Calm named s → Calm named (tracking x s)
-  calm_tracking x s c = record { same = c.same; exposed = λ i. ap (λ b. not (eqb i x) && b) (c.exposed i) ∙ and_false (not (eqb i x)); found = c.found }
+  exposed_by_tracking : (x : ℕ) (s : Known) → NoneExposed named s → NoneExposed named (tracking x s)
+  exposed_by_tracking x s c = record { same = c.same; exposed = λ i. ap (λ b. not (eqb i x) && b) (c.exposed i) ∙ and_false (not (eqb i x)); found = c.found }
 
-  calm_if : (b : Bool) (f : Known → Known) (s : Known) → Calm named s → Calm named (f s) → Calm named (if b f s)
-  calm_if b f s c d = cond_both b (f s) s (Calm named) (λ e. d) (λ e. c)
+  exposed_by_if : (b : Bool) (f : Known → Known) (s : Known) → NoneExposed named s → NoneExposed named (f s) → NoneExposed named (if b f s)
+  exposed_by_if b f s c d = cond_both b (f s) s (NoneExposed named) (λ e. d) (λ e. c)
 
-  calm_act : (s : Known) (a : Act) → Calm named s → Quiet named a → Calm named (act s a)
-  unfolding Quiet
-  calm_act s (uses x) c q =
-      cond_both (not (s.named x.0) && (not (s.constant x.0) && s.exposed x.0)) (finds x s) s (Calm named)
+  exposed_by_act : (s : Known) (a : Act) → NoneExposed named s → RaisesNone named a → NoneExposed named (act s a)
+  unfolding RaisesNone
+  exposed_by_act s (uses x) c q =
+      cond_both (not (s.named x.0) && (not (s.constant x.0) && s.exposed x.0)) (finds x s) s (NoneExposed named)
       (λ e. true_false (s.exposed x.0) (and_parts (not (s.constant x.0)) (s.exposed x.0) (and_parts (not (s.named x.0)) _ e).1).1 (c.exposed x.0))
       (λ e. c)
-  calm_act s (fixes x) c q = calm_fixing x.0 s c
-  calm_act s (loads l x) c q =
-      calm_if (not (s.named l.0)) (λ k. tracking l.0 (if (s.constant x.0) (fixing l.0) k)) s c
-      (calm_tracking l.0 _ (calm_if (s.constant x.0) (fixing l.0) s c (calm_fixing l.0 s c)))
-  calm_act s (takes l x) c q =
-      let d = calm_if (s.global x.0) (λ k. fixing l.0 (globally l.0 k)) s c (calm_fixing l.0 _ (calm_globally l.0 s c)) in
-      calm_if (not (s.named l.0)) (tracking l.0) _ d (calm_tracking l.0 _ d)
-  calm_act s (global l) c q = calm_globally l.0 s c
-  calm_act s (barrier None) c q = absurd q
-  calm_act s (barrier (Some l)) c q = subst (Calm named) (sym (cond-false _ _ _ (ap (λ f. f l.0) c.same ∙ q))) c
-  calm_act s (tracks l) c q = calm_if (not (s.named l.0)) (tracking l.0) s c (calm_tracking l.0 s c)
+  exposed_by_act s (fixes x) c q = exposed_by_fixing x.0 s c
+  exposed_by_act s (loads l x) c q =
+      exposed_by_if (not (s.named l.0)) (λ k. tracking l.0 (if (s.constant x.0) (fixing l.0) k)) s c
+      (exposed_by_tracking l.0 _ (exposed_by_if (s.constant x.0) (fixing l.0) s c (exposed_by_fixing l.0 s c)))
+  exposed_by_act s (takes l x) c q =
+      let d = exposed_by_if (s.global x.0) (λ k. fixing l.0 (globally l.0 k)) s c (exposed_by_fixing l.0 _ (exposed_by_globally l.0 s c)) in
+      exposed_by_if (not (s.named l.0)) (tracking l.0) _ d (exposed_by_tracking l.0 _ d)
+  exposed_by_act s (global l) c q = exposed_by_globally l.0 s c
+  exposed_by_act s (barrier None) c q = absurd q
+  exposed_by_act s (barrier (Some l)) c q = subst (NoneExposed named) (sym (cond-false _ _ _ (ap (λ f. f l.0) c.same ∙ q))) c
+  exposed_by_act s (tracks l) c q = exposed_by_if (not (s.named l.0)) (tracking l.0) s c (exposed_by_tracking l.0 s c)
 
-  calm_all : (todo : List Act) (s : Known) → Calm named s → Each (Quiet named) todo → Calm named (fold act s todo)
-  calm_all [] s c q = c
-  calm_all (a ∷ todo) s c q = calm_all todo (act s a) (calm_act s a c q.0) q.1
+  exposed_by_all : (todo : List Act) (s : Known) → NoneExposed named s → Each (RaisesNone named) todo → NoneExposed named (fold act s todo)
+  exposed_by_all [] s c q = c
+  exposed_by_all (a ∷ todo) s c q = exposed_by_all todo (act s a) (exposed_by_act s a c q.0) q.1
 
-  found_none : (todo : List Act) → Each (Quiet named) todo → interposed named todo ≡ []
-  found_none todo q = (calm_all todo (nothing named) (record { same = refl; exposed = λ i. refl; found = refl }) q).found
+  found_none : (todo : List Act) → Each (RaisesNone named) todo → interposed named todo ≡ []
+  found_none todo q = (exposed_by_all todo (nothing named) (record { same = refl; exposed = λ i. refl; found = refl }) q).found
 
--- acts of rows without a statement
+-- acts of rows whose Instructions have lvalues without a name
 module _ (m : Model) (named : ℕ → Bool) (fresh : (i : ℕ) → is_named m i ≡ false → named i ≡ false) where
-  quiet_marks : (k : ℕ) (l : IdentifierId) (ms : List IdentifierId) → Each (Quiet named) (marks_acts k l ms)
-  unfolding Quiet
-  quiet_marks k l [] = tt
-  quiet_marks k l (x ∷ ms) =
-      each_cond (Quiet named) (is_load k) (loads l x ∷ []) _ (tt, tt) (each_cond (Quiet named) (is_property_load k) (takes l x ∷ []) [] (tt, tt) tt)
+  none_by_marks : (k : ℕ) (l : IdentifierId) (ms : List IdentifierId) → Each (RaisesNone named) (marks_acts k l ms)
+  unfolding RaisesNone
+  none_by_marks k l [] = tt
+  none_by_marks k l (x ∷ ms) =
+      each_cond (RaisesNone named) (is_load k) (loads l x ∷ []) _ (tt, tt) (each_cond (RaisesNone named) (is_property_load k) (takes l x ∷ []) [] (tt, tt) tt)
 
-  quiet_value : (k : ℕ) (l : Option IdentifierId) (ms : List IdentifierId) → Each (Quiet named) (value_acts k l ms)
-  unfolding Quiet
-  quiet_value k None ms = tt
-  quiet_value k (Some l) ms = each_cond (Quiet named) (is_global_load k) (global l ∷ []) _ (tt, tt) (quiet_marks k l ms)
+  none_by_value : (k : ℕ) (l : Option IdentifierId) (ms : List IdentifierId) → Each (RaisesNone named) (value_acts k l ms)
+  unfolding RaisesNone
+  none_by_value k None ms = tt
+  none_by_value k (Some l) ms = each_cond (RaisesNone named) (is_global_load k) (global l ∷ []) _ (tt, tt) (none_by_marks k l ms)
 
-  quiet_barrier : (l : Option IdentifierId) → no_temporary m l ≡ false → Quiet named (barrier l)
-  unfolding Quiet
-  quiet_barrier None e = true_false true refl e
-  quiet_barrier (Some i) e = fresh i.0 e
+  none_by_barrier : (l : Option IdentifierId) → absent_or_named m l ≡ false → RaisesNone named (barrier l)
+  unfolding RaisesNone
+  none_by_barrier None e = true_false true refl e
+  none_by_barrier (Some i) e = fresh i.0 e
 
-  quiet_map : (f : IdentifierId → Act) → ((x : IdentifierId) → Quiet named (f x)) → (is : List IdentifierId) → Each (Quiet named) (map f is)
-  quiet_map f all [] = tt
-  quiet_map f all (x ∷ is) = (all x, quiet_map f all is)
+  none_by_map : (f : IdentifierId → Act) → ((x : IdentifierId) → RaisesNone named (f x)) → (is : List IdentifierId) → Each (RaisesNone named) (map f is)
+  none_by_map f all [] = tt
+  none_by_map f all (x ∷ is) = (all x, none_by_map f all is)
 
-  quiet_uses : (is : List IdentifierId) → Each (Quiet named) (map uses is)
-  unfolding Quiet
-  quiet_uses is = quiet_map uses (λ x. tt) is
+  none_by_uses : (is : List IdentifierId) → Each (RaisesNone named) (map uses is)
+  unfolding RaisesNone
+  none_by_uses is = none_by_map uses (λ x. tt) is
 
-  quiet_fixes : (is : List IdentifierId) → Each (Quiet named) (map fixes is)
-  unfolding Quiet
-  quiet_fixes is = quiet_map fixes (λ x. tt) is
+  none_by_fixes : (is : List IdentifierId) → Each (RaisesNone named) (map fixes is)
+  unfolding RaisesNone
+  none_by_fixes is = none_by_map fixes (λ x. tt) is
 
-  quiet_tracks : (is : List IdentifierId) → Each (Quiet named) (map tracks is)
-  unfolding Quiet
-  quiet_tracks is = quiet_map tracks (λ x. tt) is
+  none_by_tracks : (is : List IdentifierId) → Each (RaisesNone named) (map tracks is)
+  unfolding RaisesNone
+  none_by_tracks is = none_by_map tracks (λ x. tt) is
 
-  quiet_leaf : (l : Option IdentifierId) (k mode : ℕ) (ms os : List IdentifierId) → no_temporary m l ≡ false → Each (Quiet named) (leaf_acts l k mode ms os)
-  quiet_leaf l k mode ms os e =
-      each_append (Quiet named) (fix_acts k mode ms) _ (each_cond (Quiet named) (fixes_marks k mode) (map fixes ms) [] (quiet_fixes ms) tt)
-      (each_append (Quiet named) (value_acts k l ms) _ (quiet_value k l ms)
-      (each_append (Quiet named) (map uses os) _ (quiet_uses os)
-      (each_append (Quiet named) (cond (may_raise k mode) (barrier l ∷ []) []) _ (each_cond (Quiet named) (may_raise k mode) (barrier l ∷ []) [] (quiet_barrier l e, tt) tt)
-      (each_cond (Quiet named) (is_barrier k) (map tracks (listed l)) [] (quiet_tracks (listed l)) tt))))
+  none_by_leaf : (l : Option IdentifierId) (k mode : ℕ) (ms os : List IdentifierId) → absent_or_named m l ≡ false → Each (RaisesNone named) (leaf_acts l k mode ms os)
+  none_by_leaf l k mode ms os e =
+      each_append (RaisesNone named) (fix_acts k mode ms) _ (each_cond (RaisesNone named) (fixes_marks k mode) (map fixes ms) [] (none_by_fixes ms) tt)
+      (each_append (RaisesNone named) (value_acts k l ms) _ (none_by_value k l ms)
+      (each_append (RaisesNone named) (map uses os) _ (none_by_uses os)
+      (each_append (RaisesNone named) (cond (may_raise k mode) (barrier l ∷ []) []) _ (each_cond (RaisesNone named) (may_raise k mode) (barrier l ∷ []) [] (none_by_barrier l e, tt) tt)
+      (each_cond (RaisesNone named) (is_barrier k) (map tracks (listed l)) [] (none_by_tracks (listed l)) tt))))
 
   -- an Instruction has an lvalue without a name
   Temporary : Parent → Type 0
@@ -143,32 +140,32 @@ module _ (m : Model) (named : ℕ → Bool) (fresh : (i : ℕ) → is_named m i 
   Temporary WithoutLvalue = ⊥
   Temporary (WithLvalue l) = is_named m l.0 ≡ false
 
-  instruction_temporary : (o : Option IdentifierId) → no_temporary m o ≡ false → Temporary (instruction o)
+  instruction_temporary : (o : Option IdentifierId) → absent_or_named m o ≡ false → Temporary (instruction o)
   unfolding Temporary
   instruction_temporary None e = true_false true refl e
   instruction_temporary (Some i) e = e
 
-  kept_temporary : (r : Row) → is_statement m (head r) ≡ false → Temporary (keeps (head r))
+  kept_temporary : (r : Row) → without_temporary m (head r) ≡ false → Temporary (keeps (head r))
   unfolding Temporary
   kept_temporary r e =
       cond_both (eqb r.code 2) (instruction r.identifier) Other Temporary
-      (λ b. instruction_temporary r.identifier (sym (ap (λ c. c && no_temporary m r.identifier) b) ∙ e))
+      (λ b. instruction_temporary r.identifier (sym (ap (λ c. c && absent_or_named m r.identifier) b) ∙ e))
       (λ b. tt)
 
-  quiet_under : (p : Option Parent) (r : Row) → Within Temporary p → Each (Quiet named) (under_acts p r.kind r.mode r.marks r.operands)
+  none_by_under : (p : Option Parent) (r : Row) → Within Temporary p → Each (RaisesNone named) (under_acts p r.kind r.mode r.marks r.operands)
   unfolding Temporary
-  quiet_under None r w = quiet_uses r.operands
-  quiet_under (Some Other) r w = quiet_uses r.operands
-  quiet_under (Some WithoutLvalue) r w = absurd (w WithoutLvalue refl)
-  quiet_under (Some (WithLvalue l)) r w = quiet_leaf (Some l) r.kind r.mode r.marks r.operands (w (WithLvalue l) refl)
+  none_by_under None r w = none_by_uses r.operands
+  none_by_under (Some Other) r w = none_by_uses r.operands
+  none_by_under (Some WithoutLvalue) r w = absurd (w WithoutLvalue refl)
+  none_by_under (Some (WithLvalue l)) r w = none_by_leaf (Some l) r.kind r.mode r.marks r.operands (w (WithLvalue l) refl)
 
-  quiet_row : (p : Option Parent) (r : Row) → Within Temporary p → is_statement m (head r) ≡ false → Each (Quiet named) (acts (entering p r))
-  quiet_row p r w e = each_cond (Quiet named) (eqb r.code 5) _ _ (quiet_under p r w) (quiet_uses (listed (used_in r.code r.identifier)))
+  none_by_row : (p : Option Parent) (r : Row) → Within Temporary p → without_temporary m (head r) ≡ false → Each (RaisesNone named) (acts (entering p r))
+  none_by_row p r w e = each_cond (RaisesNone named) (eqb r.code 5) _ _ (none_by_under p r w) (none_by_uses (listed (used_in r.code r.identifier)))
 
-  quiet_rows : (own : List IdentifierId) (rs : List Row) → list_any (λ r. is_statement m (head r)) rs ≡ false → Each (Quiet named) (pass_acts own rs)
-  quiet_rows own rs e =
-      each_append (Quiet named) (map fixes own) _ (quiet_fixes own)
-      (each_acts keeps (λ r. is_statement m (head r) ≡ false) Temporary kept_temporary acts (Quiet named) quiet_row (λ q k. tt) [] rs tt (each_fails (λ r. is_statement m (head r)) rs e))
+  none_by_rows : (own : List IdentifierId) (rs : List Row) → some_without_temporary m rs ≡ false → Each (RaisesNone named) (pass_acts own rs)
+  none_by_rows own rs e =
+      each_append (RaisesNone named) (map fixes own) _ (none_by_fixes own)
+      (each_acts keeps (λ r. without_temporary m (head r) ≡ false) Temporary kept_temporary acts (RaisesNone named) none_by_row (λ q k. tt) [] rs tt (each_none (λ r. without_temporary m (head r)) (λ r. without_temporary m (head r) ≡ false) (λ r h. h) rs e))
 
 -- a list of named identifiers
 module _ (m : Model) (why : Reason) where
@@ -187,27 +184,27 @@ module _ (m : Model) (why : Reason) where
       (λ b. ap (λ c. c || names i (covers why own)) b ∙ other_none own h.1 i new)
       (cases_Bool (eqb i x.0))
 
-module _ (m : Model) (ps : Span) (rs : List Row) (idle : may_name m ps rs ≡ false) where
+module _ (m : Model) (ps : Span) (rs : List Row) (idle : can_name m ps rs ≡ false) where
   abbrev own : List IdentifierId
   own = identifiers_in m.pool ps
 
-  statements : list_any (λ r. is_statement m (head r)) rs ≡ false
-  statements = (or_parts (list_any (λ r. is_statement m (head r)) rs) _ idle).0
+  temporaries_alone : some_without_temporary m rs ≡ false
+  temporaries_alone = (or_parts (some_without_temporary m rs) _ idle).0
 
-  no_takers : takes_names m ps ≡ false
-  no_takers = (or_parts (list_any (λ r. is_statement m (head r)) rs) _ idle).1
+  no_tables : tables_can_name m ps ≡ false
+  no_tables = (or_parts (some_without_temporary m rs) _ idle).1
 
   all_named : list_any (is_unnamed m) own ≡ false
-  all_named = (or_parts (not (eqb (length m.functions) 0)) _ (or_parts (not (eqb (length m.scopes) 0)) _ no_takers).1).1
+  all_named = (or_parts (not (eqb (length m.functions) 0)) _ (or_parts (not (eqb (length m.scopes) 0)) _ no_tables).1).1
 
   is_zero : (n : ℕ) → not (eqb n 0) ≡ false → n ≡ 0
-  is_zero n e = ⊎_elim (λ b. eqb-true n 0 b) (λ b. true_false (not (eqb n 0)) (ap not b) e) (cases_Bool (eqb n 0))
+  is_zero n e = eqb-true n 0 (not-false (eqb n 0) e)
 
   no_scopes : m.scopes ≡ []
-  no_scopes = nil_from_length _ (is_zero (length m.scopes) (or_parts (not (eqb (length m.scopes) 0)) _ no_takers).0)
+  no_scopes = nil_from_length _ (is_zero (length m.scopes) (or_parts (not (eqb (length m.scopes) 0)) _ no_tables).0)
 
   no_functions : length m.functions ≡ 0
-  no_functions = is_zero (length m.functions) (or_parts (not (eqb (length m.functions) 0)) _ (or_parts (not (eqb (length m.scopes) 0)) _ no_takers).1).0
+  no_functions = is_zero (length m.functions) (or_parts (not (eqb (length m.functions) 0)) _ (or_parts (not (eqb (length m.scopes) 0)) _ no_tables).1).0
 
   no_scope_at : (x : ℕ) → scope_of m x ≡ no_scope
   no_scope_at x = ap (λ ss. get_or ss x no_scope) no_scopes
@@ -233,7 +230,7 @@ module _ (m : Model) (ps : Span) (rs : List Row) (idle : may_name m ps rs ≡ fa
   fresh i new = ap (λ js. names i js || is_named m i) early_is ∙ ap (λ b. b || is_named m i) (other_none m reasons.OwnParameter own all_named i new) ∙ new
 
   between_is : between m ps rs ≡ []
-  between_is = ap (covers reasons.Interposed) (found_none (named_then m ps rs) (pass_acts own rs) (quiet_rows m (named_then m ps rs) fresh own rs statements))
+  between_is = ap (covers reasons.Interposed) (found_none (named_then m ps rs) (pass_acts own rs) (none_by_rows m (named_then m ps rs) fresh own rs temporaries_alone))
 
   before_is : before m ps rs ≡ []
   before_is =

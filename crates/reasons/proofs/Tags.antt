@@ -4,6 +4,7 @@ use Rattle.std.proofs.lemmas.List.Folds.{list_any-append}
 use Rattle.std.proofs.lemmas.Bool.{cases_Bool, cond-true, cond-false, eqb-true, ne_eqb}
 use Rattle.hir.specs.Environments.{Model, declaration_of}
 use Rattle.std.specs.List.{fold, list_any}
+use Rattle.hir.proofs.Lists.{any_map}
 use Rattle.reactive.specs.declared.code.Code.TheVariants as codes
 use Rattle.reactive.specs.Codes.{used_in, listed}
 use Rattle.reactive.specs.Numbers.{scope_in}
@@ -14,10 +15,6 @@ use Rattle.reasons.specs.Coverings.{upper}
 use Rattle.reasons.proofs.Bools.{or_false, or_assoc}
 use Rattle.reasons.proofs.Early.{Static}
 use Rattle.reasons.proofs.Marking.{tags_after, tagging}
-
-some_map : {A B : Type 0} (p : B → Bool) (f : A → B) (xs : List A) → list_any p (map f xs) ≡ list_any (λ x. p (f x)) xs
-some_map p f [] = refl
-some_map p f (x ∷ xs) = ap (λ b. p (f x) || b) (some_map p f xs)
 
 some_none : {A B : Type 0} (p : B → Bool) (f : A → B) (xs : List A) → ((x : A) → p (f x) ≡ false) → list_any p (map f xs) ≡ false
 some_none p f [] e = refl
@@ -57,7 +54,7 @@ module _ (m : Model) (static : Static m) (d : ℕ) where
       list_any-append flagged (map table.sees r.operands) (cond (eqb r.kind 15) (map table.flags r.marks) [])
       ∙ ap (λ b. b || list_any flagged (cond (eqb r.kind 15) (map table.flags r.marks) [])) (some_none flagged table.sees r.operands (λ i. refl))
       ∙ ⊎_elim
-      (λ e. ap (list_any flagged) (cond-true _ _ _ e) ∙ some_map flagged table.flags r.marks ∙ sym (ap (λ b. b && list_any (λ i. eqb (declaration_of m i.0) d) r.marks) e))
+      (λ e. ap (list_any flagged) (cond-true _ _ _ e) ∙ any_map table.flags flagged r.marks ∙ sym (ap (λ b. b && list_any (λ i. eqb (declaration_of m i.0) d) r.marks) e))
       (λ e. ap (list_any flagged) (cond-false _ _ _ e) ∙ sym (ap (λ b. b && list_any (λ i. eqb (declaration_of m i.0) d) r.marks) e))
       (cases_Bool (eqb r.kind 15))
 

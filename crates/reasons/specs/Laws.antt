@@ -8,8 +8,8 @@ use Rattle.hir.specs.declared.tables.Reason.TheVariants as reasons
 use Rattle.hir.specs.Environments.{Model, declaration_of}
 use Rattle.std.specs.List.{list_any}
 use Rattle.hir.specs.Spans.{identifiers_in}
-use Rattle.reactive.specs.Rows.{Row, head}
-use Rattle.reactive.specs.Statements.{is_statement}
+use Rattle.reactive.specs.Rows.{Row}
+use Rattle.reactive.specs.Lvalues.{some_without_temporary}
 use Rattle.promote.specs.Identifier.{is_unnamed}
 use Rattle.instances.specs.Instances as instances
 use Rattle.reasons.specs.Journals.{names, is_named, declares}
@@ -49,14 +49,14 @@ pub record JournalLaws (m : Model) (ps : Span) (rs : List Row) : Type 0 where
 abbrev pub EveryJournal : Type 0
 EveryJournal = (m : Model) (ps : Span) (rs : List Row) → JournalLaws m ps rs
 
--- what names are given to without any statement: there is a scope, a function, or an own parameter without a name
-abbrev pub takes_names : Model → Span → Bool
-takes_names m ps = not (length m.scopes == 0) || (not (length m.functions == 0) || list_any (is_unnamed m) (identifiers_in m.pool ps))
+-- there is a scope, a function, or an own parameter without a name
+abbrev pub tables_can_name : Model → Span → Bool
+tables_can_name m ps = not (length m.scopes == 0) || (not (length m.functions == 0) || list_any (is_unnamed m) (identifiers_in m.pool ps))
 
--- a run may name something: some row is a statement, or there is what names are given to without any
-abbrev pub may_name : Model → Span → List Row → Bool
-may_name m ps rs = list_any (λ r. is_statement m (head r)) rs || takes_names m ps
+-- some Instruction's lvalue is absent or named, or the tables can name something
+abbrev pub can_name : Model → Span → List Row → Bool
+can_name m ps rs = some_without_temporary m rs || tables_can_name m ps
 
--- a run that may name nothing journals nothing
+-- a run that can name nothing journals nothing
 abbrev pub IdleRuns : Type 0
-IdleRuns = (m : Model) (ps : Span) (rs : List Row) → may_name m ps rs ≡ false → journal m ps rs ≡ []
+IdleRuns = (m : Model) (ps : Span) (rs : List Row) → can_name m ps rs ≡ false → journal m ps rs ≡ []

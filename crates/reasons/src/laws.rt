@@ -5,7 +5,7 @@ pub fn every_journal_keeps_the_laws()
     ensures { EveryJournal }
 {}
 
-// A run over tables without scopes and functions, whose own parameters have names and whose Instructions are no statements, journals nothing.
+// Where there is no scope and no function, every own parameter has a name, and every Instruction has an lvalue without a name, the journal gets no row.
 pub fn idle_runs_journal_nothing()
     ensures { IdleRuns }
 {}

@@ -5,13 +5,13 @@ use Rattle.hir.specs.Environments.{model}
 use Rattle.hir.specs.Refusals.{answered}
 use Rattle.reactive.specs.declared.row.RowHead.{RowHead}
 use Rattle.reactive.specs.Rows.{Row}
-use Rattle.reactive.specs.Statements.{is_statement}
+use Rattle.reactive.specs.Lvalues.{without_temporary}
 use Rattle.checks.specs.Rows.{opened, wrong_fields}
 use Rattle.checks.proofs.Answering.{refuses, hands_on, refused_by, not_refused, unplaced_refused}
 use Rattle.checks.proofs.Seeing as seeing
 use Rattle.checks.proofs.Slots.{opened_none}
 use Rattle.checks.proofs.rows.check_all.Goals as goal
-use Rattle.checks.proofs.rows.check_all.Goals.{then-is, else-is+then-is_statement, else-is+else-is_statement}
+use Rattle.checks.proofs.rows.check_all.Goals.{then-is, else-is+then-without_temporary, else-is+else-without_temporary}
 
 pub returns-then-passes_limit : goal.returns-then-passes_limit
 returns-then-passes_limit g c =
@@ -39,7 +39,7 @@ returns g c =
     let gave = c.in_default.ensures.value in
     let sound = seeing.ends c.loop-row.invariant gave ∙ not_refused _ tt tt c.in_ok-finish.ensures in
     record {
-      value = sym (λ k. answered (sound k) (sym (seeing.counted c.loop-row.invariant gave) k, sym (seeing.some_stands c.loop-row.invariant gave) k));
+      value = sym (λ k. answered (sound k) (sym (seeing.counted c.loop-row.invariant gave) k, sym (seeing.found_all c.loop-row.invariant gave) k));
       rows = seeing.rows_kept c.loop-row.invariant gave c.next.ensures.after;
     }
 
@@ -74,10 +74,26 @@ pub loop-row-preserved : goal.loop-row-preserved
 loop-row-preserved g c =
     let opens = ap (opened c.loop-row.stack c.in-Some.row.depth) (sym c.in-Ok.ensures) ∙ c.in_ok-enter.ensures.rows in
     let right = c.if-wrong_fields.ensures ∙ (λ k. wrong_fields (c.from-sizes.ensures k) (c.new.ensures k)) in
-    let is : c.if-is.scopes ≡ c.loop-row.scopes + cond (eqb c.in-Some.row.code 3) 1 0 = elim c.if-is.branch [ then-is w ↦ grind (arith, nat_tests) | else-is+then-is_statement w ↦ grind (arith, nat_tests) | else-is+else-is_statement w ↦ grind (arith, nat_tests) ] in
-    let few : c.if-is.scopes ≤ c.loop-row.seen + 1 = elim c.if-is.branch [ then-is w ↦ omega (arith, w.scopes-is, c.loop-row.invariant.few) | else-is+then-is_statement w ↦ omega (arith, w.scopes-is, c.loop-row.invariant.few) | else-is+else-is_statement w ↦ omega (arith, w.scopes-is, c.loop-row.invariant.few) ] in
+    let is : c.if-is.scopes ≡ c.loop-row.scopes + cond (eqb c.in-Some.row.code 3) 1 0 =
+    elim c.if-is.branch [
+      | then-is w ↦ grind (arith, nat_tests)
+      | else-is+then-without_temporary w ↦ grind (arith, nat_tests)
+      | else-is+else-without_temporary w ↦ grind (arith, nat_tests)
+    ] in
+    let few : c.if-is.scopes ≤ c.loop-row.seen + 1 =
+    elim c.if-is.branch [
+      | then-is w ↦ omega (arith, w.scopes-is, c.loop-row.invariant.few)
+      | else-is+then-without_temporary w ↦ omega (arith, w.scopes-is, c.loop-row.invariant.few)
+      | else-is+else-without_temporary w ↦ omega (arith, w.scopes-is, c.loop-row.invariant.few)
+    ] in
     let m = model c.args.env.now in
-    let so : c.if-is.statements ≡ c.loop-row.statements || is_statement m c.in-Some.row = elim c.if-is.branch [ then-is w ↦ w.statements-is ∙ seeing.unless_stands c.loop-row.statements (seeing.no_statement m c.in-Some.row w.if-is.ensures) | else-is+then-is_statement w ↦ w.statements-is ∙ seeing.once_stands c.loop-row.statements (sym w.if-is_statement.ensures) | else-is+else-is_statement w ↦ w.statements-is ∙ seeing.unless_stands c.loop-row.statements (sym w.if-is_statement.ensures) ] in
+    let some = c.loop-row.some_without in
+    let so : c.if-is.some_without ≡ some || without_temporary m c.in-Some.row =
+    elim c.if-is.branch [
+      | then-is w ↦ w.some_without-is ∙ seeing.or_fails some (seeing.no_instruction m c.in-Some.row w.if-is.ensures)
+      | else-is+then-without_temporary w ↦ w.some_without-is ∙ seeing.or_holds some (sym w.if-without_temporary.ensures)
+      | else-is+else-without_temporary w ↦ w.some_without-is ∙ seeing.or_fails some (sym w.if-without_temporary.ensures)
+    ] in
     seeing.seen_on c.loop-row.invariant c.in-Some.row c.in-Some.ensures.value c.next.ensures.after c.if-passes_limit.ensures c.if-depth-ge-MOST_OPEN.false c.enter.new.self opens right _ is few _ so
 
 pub returns-in_err-finish-clause-value : goal.returns-in_err-finish-clause-value
