@@ -183,15 +183,13 @@ impl Visitor for PromoteInterposed {
     {
         let head = row.head();
         if head.is(Code::Leaf) {
-            match parent {
-                Some(Parent::WithLvalue(lvalue)) => {
-                    self.promote_interposed_instruction(env, scratch, Some(lvalue), row)
-                }
-                Some(Parent::WithoutLvalue) => {
-                    self.promote_interposed_instruction(env, scratch, None, row)
-                }
-                _ => self.use_operands(env, scratch, row),
-            }
+            // One call for both, which is compiled in place; two are not.
+            let lvalue = match parent {
+                Some(Parent::WithLvalue(lvalue)) => Some(lvalue),
+                Some(Parent::WithoutLvalue) => None,
+                _ => return self.use_operands(env, scratch, row),
+            };
+            self.promote_interposed_instruction(env, scratch, lvalue, row);
         } else if let Some(id) = head.used() {
             self.use_place(env, scratch, id);
         }
