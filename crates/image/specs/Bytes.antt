@@ -1,6 +1,7 @@
 -- Bytes, numbers of four bytes, and where reading stands. Assumes nothing.
 use Rattle.std.specs.Prelude.{ℕ, zero, suc, ◌+◌, ◌*◌, ◌/◌, ◌%◌, ◌^◌, ◌<◌, List, [], ◌∷◌, ◌++◌, length, take, drop, slice_index}
 use Rattle.image.specs.declared.cursor.Cursor.{Cursor}
+use Rattle.image.specs.declared.cursor.Unread.{Unread}
 
 -- a byte of the image, and the bytes from there to the end of the holder
 abbrev pub Place : Type 0
@@ -9,6 +10,10 @@ Place = ℕ × List ℕ
 -- what a cursor stands for
 abbrev pub see : Cursor → Place
 see c = (c.at, c.rest.now)
+
+-- what unread bytes stand for
+abbrev pub see_unread : Unread → Place
+see_unread u = (u.at, u.rest.now)
 
 -- the place n bytes on
 abbrev pub past : ℕ → Place → Place

@@ -1,9 +1,9 @@
 // Layer 2: a version byte, then sections to the image's end.
 ghost use Rattle.std.specs.Prelude.{◌≡◌, ℕ, ◌+◌, ◌^◌, ◌<◌, ◌≤◌, length, IfOk, ◌==◌};
-ghost use Rattle.image.specs.Bytes.{see};
+ghost use Rattle.image.specs.Bytes.{Inside, see, see_unread};
 ghost use Rattle.image.specs.Steps.{Is, held, see_open, see_reader, section_at, opened_at, closed_at, version_at};
 
-use crate::cursor::Cursor;
+use crate::cursor::{Cursor, Unread};
 use crate::fault::{ByteFault, SectionFault};
 
 // A section reads as one of four cases, each with its part of the image: a rule of this project.
@@ -24,7 +24,7 @@ pub struct Reader<'a> {
 // An open section. It is not `Drop`: `close` or `skip` spends it and gives the reader back.
 pub struct Open<'a> {
     section: Section<'a>,
-    unread: Cursor<'a>,
+    unread: Unread<'a>,
     behind: Cursor<'a>,
 }
 
@@ -59,6 +59,7 @@ impl<'a> Reader<'a> {
     pub fn open(self) -> Result<Open<'a>, SectionFault>
         ensures is { Is see_open result (section_at (see_reader self.entry)) }
         ensures fresh { IfOk result (λ o. (see_open o).unread.1 ≡ (see_open o).section.bytes) }
+        ensures inside { IfOk result (λ o. Inside (see_open o).unread) }
         ensures shorter { IfOk result (λ o. length o.behind.rest.now < length self.entry.left.rest.now) }
     {
         let Reader { left } = self;
@@ -85,16 +86,16 @@ impl<'a> Open<'a> {
         self.section
     }
 
-    // What is unread of the section.
-    pub fn unread(&self) -> Cursor<'a>
-        ensures { see result ≡ see self.now.unread }
+    // What is unread of the section: its content, until `read_to` says otherwise.
+    pub fn unread(&self) -> Unread<'a>
+        ensures { see_unread result ≡ see_unread self.now.unread }
     {
         self.unread
     }
 
-    // What is unread is `rest` now.
-    pub fn read_to(&mut self, rest: Cursor<'a>)
-        ensures { see_open self.new ≡ record { section = held self.old.section; unread = see rest.entry; behind = see self.old.behind } }
+    // What is unread is `rest` now, whatever it is: only `close` asks whether it is empty.
+    pub fn read_to(&mut self, rest: Unread<'a>)
+        ensures { see_open self.new ≡ record { section = held self.old.section; unread = see_unread rest.entry; behind = see self.old.behind } }
     {
         self.unread = rest;
     }
@@ -108,7 +109,7 @@ impl<'a> Open<'a> {
             unread,
             behind,
         } = self;
-        if !unread.is_empty() {
+        if !unread.rest.is_empty() {
             return Err(SectionFault::Left(unread.at));
         }
         Ok(Reader { left: behind })
@@ -137,6 +138,7 @@ fn opened<'a>(
     requires { content.at ≡ at + 5 }
     ensures is { Is see_open result (opened_at at size letter content.entry.rest.now) }
     ensures fresh { IfOk result (λ o. (see_open o).unread.1 ≡ (see_open o).section.bytes) }
+    ensures inside { IfOk result (λ o. Inside (see_open o).unread) }
     ensures shorter { IfOk result (λ o. length o.behind.rest.now ≤ length content.entry.rest.now) }
 {
     if size == 0 {
@@ -154,7 +156,7 @@ fn opened<'a>(
     };
     Ok(Open {
         section,
-        unread,
+        unread: Unread::from(unread),
         behind,
     })
 }

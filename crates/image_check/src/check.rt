@@ -1,6 +1,6 @@
 // A whole image: one I, any S, any F, any T.
 ghost use Rattle.std.specs.Prelude.{◌≡◌, ℕ, ◌+◌, ◌<◌, ◌≤◌, length, IfOk, Some};
-ghost use Rattle.image.specs.Bytes.{see};
+ghost use Rattle.image.specs.Bytes.{Inside, see};
 ghost use Rattle.image.specs.Steps.{Is, see_open, see_reader, ended, passed, in_section};
 ghost use Rattle.image_check.specs.Ranks.{rank_number, stage_of};
 ghost use Rattle.image_check.specs.Steps.{lists_end, content_at, spent_at, one_at, staged, goes_on, image_at};
@@ -8,7 +8,7 @@ ghost use Rattle.image_check.specs.Verdicts.{Verdict};
 
 use crate::rank::Rank;
 use hir::span::MOST_OPEN;
-use image::cursor::Cursor;
+use image::cursor::{Cursor, Unread};
 use image::fault::{RowFault, SectionFault};
 use image::row::check_row;
 use image::section::{Open, Reader};
@@ -40,12 +40,14 @@ fn check_content<'a>(rank: Rank, content: Cursor<'a>) -> Result<Cursor<'a>, RowF
 
 // Reads an open section to its end, and spends it.
 fn check_open<'a>(mut part: Open<'a>) -> Result<Reader<'a>, RowFault>
+    requires { Inside (see_open part).unread }
     ensures is { Is see_reader result (ended (spent_at (see_open part.entry))) }
     ensures behind { IfOk result (λ v. see_reader v ≡ (see_open part.entry).behind) }
 {
-    match check_content(Rank::from(part.section()), part.unread()) {
+    let Unread { rest, at } = part.unread();
+    match check_content(Rank::from(part.section()), Cursor { rest, at }) {
         Ok(rest) => {
-            part.read_to(rest);
+            part.read_to(Unread::from(rest));
             Ok(part.close()?)
         }
         Err(fault) => {

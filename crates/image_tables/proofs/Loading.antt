@@ -1,5 +1,5 @@
 -- How far the sections of an image are loaded. Assumes nothing.
-use Rattle.std.proofs.Common.{◌≡◌, ℕ, ◌+◌, ◌*◌, ◌≤◌, List, [], ◌∷◌, ◌++◌, length, Ok, Err, vec_items, sym, refl, ap, ◌∙◌, subst, append_assoc, append-nil, arith, length-append}
+use Rattle.std.proofs.Common.{◌≡◌, ℕ, ◌+◌, ◌*◌, ◌^◌, ◌<◌, ◌≤◌, List, [], ◌∷◌, ◌++◌, length, Ok, Err, vec_items, sym, refl, ap, ◌∙◌, subst, append_assoc, append-nil, arith, length-append}
 use Rattle.image.specs.declared.fault.SectionFault.{SectionFault}
 use Rattle.image.specs.Bytes.{Place, joined}
 use Rattle.image.specs.Layouts.{Begins}
@@ -82,6 +82,9 @@ module _ (bs : List ℕ) (q : Place) (t : Tables) (l : Loading bs q t) where
 
       pub reads : SectionReads h
       reads = subst (λ r. ReadsBy r h.bytes) (sym rank_is) (content_reads up.c h.bytes up.begins.fine.0.0 bytes_is)
+
+      pub roomy : length bs < 2 ^ 32 → 4 * length (vec_items t.pool) + length h.bytes < 2 ^ 32
+      roomy small = omega (arith, section_size, l.room)
 
       pub turn : (u : Tables) → AddedSection h t u → Loading bs o.behind u
       turn u a =

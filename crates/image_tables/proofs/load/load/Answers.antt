@@ -1,7 +1,7 @@
 use Rattle.std.proofs.Common.{sym, subst, arith, true-eqb, false-eqb}
 use Rattle.image.specs.Bytes.{Place}
 use Rattle.image.specs.Steps.{held, see_open, see_reader}
-use Rattle.image_tables.proofs.Loading.{Loading, open_never, reads, turn, end}
+use Rattle.image_tables.proofs.Loading.{Loading, open_never, reads, roomy, turn, end}
 use Rattle.image_tables.proofs.load.load.Goals as goal
 
 pub returns-in_err-open : goal.returns-in_err-open
@@ -12,6 +12,12 @@ pub add_section-requires-clause-reads : goal.add_section-requires-clause-reads
 add_section-requires-clause-reads c =
     let some = false-eqb _ 0 c.loop-reader-test.ensures in
     reads c.args.image.now (see_reader c.loop-reader.reader) c.loop-reader.tables c.loop-reader.invariant some (see_open c.in_ok-open.open) (held c.section-section.result) c.in_ok-open.ensures.is c.section-section.ensures
+
+pub add_section-requires-clause-room : goal.add_section-requires-clause-room
+add_section-requires-clause-room c =
+    let some = false-eqb _ 0 c.loop-reader-test.ensures in
+    let r = roomy c.args.image.now (see_reader c.loop-reader.reader) c.loop-reader.tables c.loop-reader.invariant some (see_open c.in_ok-open.open) (held c.section-section.result) c.in_ok-open.ensures.is c.section-section.ensures (omega arith) in
+    omega (arith, r, c.loop-reader.tables.pool.ok.0)
 
 pub loop-reader-preserved : goal.loop-reader-preserved
 loop-reader-preserved c =
