@@ -5,6 +5,7 @@ ghost use Rattle.hir.specs.Scratches.{noted};
 
 use hir::environment::Environment;
 use hir::ids::{DeclarationId, IdentifierId, ScopeId};
+use hir::packed::{PackedEpoch, PackedLink, PackedRecording};
 use hir::scratch::{Scratch, Trail, Work};
 use hir::tables::{Function, Identifier, JournalRow, Reason, Scope};
 use hir::tag::Tag;
@@ -75,17 +76,17 @@ impl State {
         let full = Work {
             tag: true,
             promoted: true,
-            recorded: Some(None),
+            recorded: PackedRecording::new(None),
             escaped: true,
             constant: true,
             global: true,
-            tracked: Some(1),
+            tracked: PackedEpoch::new(1),
         };
         self.work = vec![in heap; full; size.work]?;
         self.marks = vec![in heap; true; size.marks]?;
         self.trail = vec![in heap; Trail {
             scope: ScopeId(1),
-            link: Some(0)
+            link: PackedLink::new(Some(0))
         }; size.trail]?;
         Ok(())
     }

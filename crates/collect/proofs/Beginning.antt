@@ -1,5 +1,5 @@
 -- The first pass can go over sound rows. Assumes nothing.
-use Rattle.std.proofs.Common.{◌≡◌, ℕ, ◌^◌, ◌<◌, ◌≤◌, Bool, true, false, cond, eqb, leb, List, [], ◌∷◌, ◌++◌, map, length, Some, None, Option, IfSome, sym, refl, ap, subst, append-nil, arith}
+use Rattle.std.proofs.Common.{◌≡◌, ℕ, ◌+◌, ◌^◌, ◌<◌, ◌≤◌, Bool, true, false, cond, eqb, leb, List, [], ◌∷◌, ◌++◌, map, length, Some, None, Option, IfSome, sym, refl, ap, subst, append-nil, arith}
 use Rattle.std.proofs.lemmas.Bool.{cond_both}
 use Rattle.hir.specs.declared.ids.ScopeId.{ScopeId}
 use Rattle.hir.specs.Environments.{Model}
@@ -94,7 +94,7 @@ openings_events around (r ∷ rs) =
 pub few_openings : (rs : List Row) → openings (pass_acts rs) ≤ scope_rows rs
 few_openings rs = openings_events [] rs
 
-pub ready_begun : (t : Tables) (rs : List Row) → Sound t → ((d : ℕ) → (work_of t.notes d).recorded ≡ None) → openings (pass_acts rs) ≤ length t.notes.trail → openings (pass_acts rs) < 2 ^ 32 → Each (RowSound t.env) rs → Ready (begun t) (pass_acts rs)
+pub ready_begun : (t : Tables) (rs : List Row) → Sound t → ((d : ℕ) → (work_of t.notes d).recorded ≡ None) → openings (pass_acts rs) ≤ length t.notes.trail → openings (pass_acts rs) + 1 < 2 ^ 32 → Each (RowSound t.env) rs → Ready (begun t) (pass_acts rs)
 ready_begun t rs sound fresh room low rows =
     record {
       sound = sound;

@@ -170,3 +170,19 @@ grows_over w (a ∷ todo) = grows_trans (grows_does w a) (grows_over (does w a) 
 -- the pass names nothing
 pub grows_collected : (t : Tables) (rs : List Row) → Grows t (collected t rs)
 grows_collected t rs = grows_over (begun t) (pass_acts rs)
+
+-- an act leaves the environment
+env_does : (w : Whole CollectPromotable) (a : Act) → (does w a).tables.env ≡ w.tables.env
+env_does w (opens s) = refl
+env_does w shuts = refl
+env_does w (prunes s) = (noted_each (reach w.visitor.innermost) w.visitor.innermost (omega arith) w.tables (declared_in w.tables.env s)).env
+env_does w (sees i) = (noted_used w.visitor.used w.visitor.innermost w.tables i).env
+env_does w (flags i) = refl
+
+env_over : (w : Whole CollectPromotable) (todo : List Act) → (fold does w todo).tables.env ≡ w.tables.env
+env_over w [] = refl
+env_over w (a ∷ todo) = env_over (does w a) todo ∙ env_does w a
+
+-- and so does the pass
+pub same_env : (t : Tables) (rs : List Row) → (collected t rs).env ≡ t.env
+same_env t rs = env_over (begun t) (pass_acts rs)

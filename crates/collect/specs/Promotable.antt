@@ -150,7 +150,7 @@ pub record Ready (w : Whole CollectPromotable) (todo : List Act) : Type 0 where
   pub linked : Linked w.visitor w.tables.notes
   pub fits : Each (Fits w.tables.env) todo
   pub room : w.visitor.used + openings todo ≤ length w.tables.notes.trail
-  pub low : w.visitor.used + openings todo < 2 ^ 32
+  pub low : w.visitor.used + openings todo + 1 < 2 ^ 32
 
 -- what an event needs
 abbrev pub Readies : Whole CollectPromotable → Event Bool → Type 0

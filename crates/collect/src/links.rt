@@ -3,7 +3,8 @@ ghost use Rattle.std.specs.Prelude.{◌≡◌};
 ghost use Rattle.collect.specs.Links.{Leads, is_along};
 
 use hir::ids::ScopeId;
-use hir::scratch::{Link, Trail};
+use hir::packed::Link;
+use hir::scratch::Trail;
 
 // Whether a scope is among those along a link. By a loop: it ends since links go down, which a chain of successors does not show.
 pub fn is_along(trail: &[Trail], link: Link, scope: ScopeId) -> bool
@@ -16,7 +17,7 @@ pub fn is_along(trail: &[Trail], link: Link, scope: ScopeId) -> bool
         if active.scope == scope {
             return true;
         }
-        at = active.link;
+        at = active.link.get();
     }
     false
 }

@@ -14,7 +14,8 @@ use crate::links::is_along;
 use fixed_stack::FixedStack;
 use hir::environment::Environment;
 use hir::ids::{IdentifierId, ScopeId};
-use hir::scratch::{Link, Scratch, Trail, Work};
+use hir::packed::{Link, PackedLink, PackedRecording};
+use hir::scratch::{Scratch, Trail, Work};
 use reactive::code::Code;
 use reactive::given::GivenRow;
 use reactive::kind::Kind;
@@ -37,12 +38,13 @@ impl CollectPromotable {
     fn open_scope(&mut self, scratch: &mut Scratch, scope: ScopeId)
         requires room { self.old.used < length scratch.old.trail.now }
         requires low { self.old.used + 1 < 2 ^ 32 }
+        requires innermost { reach self.old.innermost ≤ self.old.used }
         ensures visitor { self.new ≡ at (Some self.old.used) (self.old.used + 1) }
         ensures notes { noted scratch.new ≡ with_trail (noted scratch.old) self.old.used (trail_row scope self.old.innermost) }
     {
         scratch.trail[self.used as usize] = Trail {
             scope,
-            link: self.innermost,
+            link: PackedLink::new(self.innermost),
         };
         self.innermost = Some(self.used);
         self.used += 1;
@@ -54,7 +56,7 @@ impl CollectPromotable {
         ensures { self.new ≡ at (around (noted scratch.now) self.old.innermost) self.old.used }
     {
         if let Some(row) = self.innermost {
-            self.innermost = scratch.trail[row as usize].link;
+            self.innermost = scratch.trail[row as usize].link.get();
         }
     }
 
@@ -62,11 +64,12 @@ impl CollectPromotable {
     fn record_pruned(self, env: &Environment, scratch: &mut Scratch, id: IdentifierId)
         requires known { Known (model env.now) id }
         requires sound { Sound (tables env.now scratch.old) }
+        requires low { reach self.innermost + 1 < 2 ^ 32 }
         ensures { tables env.now scratch.new ≡ recorded_at self.innermost (tables env.now scratch.old) id }
     {
         let d = env.declaration(id).0 as usize;
         let mut work = scratch.work[d];
-        work.recorded = Some(self.innermost);
+        work.recorded = PackedRecording::new(self.innermost);
         work.escaped = false;
         scratch.work[d] = work;
     }
@@ -88,7 +91,7 @@ impl CollectPromotable {
         requires leads { IfSome work.recorded (λ link. Leads scratch.now.trail.now link) }
         ensures { result ≡ escapes_at self.innermost (noted scratch.now) work }
     {
-        let (Some(link), Some(row)) = (work.recorded, self.innermost) else {
+        let (Some(link), Some(row)) = (work.recorded.get(), self.innermost) else {
             return false;
         };
         let scope = scratch.trail[row as usize].scope;

@@ -7,3 +7,4 @@ pub mod Lists
 pub mod Sound
 pub mod Bytes
 pub mod Tags
+pub mod Packed

@@ -3,6 +3,7 @@
 
 pub mod environment;
 pub mod ids;
+pub mod packed;
 pub mod refusal;
 pub mod scratch;
 pub mod span;

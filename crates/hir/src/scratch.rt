@@ -2,9 +2,8 @@ ghost use Rattle.std.specs.Prelude.{◌≡◌};
 ghost use Rattle.hir.specs.Scratches.{noted, blank};
 
 use crate::ids::ScopeId;
-
-// The trail row of an active scope, or none.
-pub type Link = Option<u32>;
+pub use crate::packed::Link;
+use crate::packed::{PackedEpoch, PackedLink, PackedRecording};
 
 // What a run notes of an identifier (constant, global, tracked) and of a declaration (the rest).
 #[derive(Clone, Copy, Default, PartialEq)]
@@ -14,20 +13,20 @@ pub struct Work {
     // this run named an identifier of the declaration
     pub promoted: bool,
     // the link of the innermost active scope when a Pruned row last recorded the declaration
-    pub recorded: Option<Link>,
+    pub recorded: PackedRecording,
     // it was used in another scope since
     pub escaped: bool,
     pub constant: bool,
     pub global: bool,
     // the epoch in which the identifier was last tracked
-    pub tracked: Option<u32>,
+    pub tracked: PackedEpoch,
 }
 
 // An active scope, and the link of the one around it.
 #[derive(Clone, Copy, Default, PartialEq)]
 pub struct Trail {
     pub scope: ScopeId,
-    pub link: Link,
+    pub link: PackedLink,
 }
 
 // Handed on beside the environment and not in one struct with it, whose methods would each have to ensure that both references stay the same.

@@ -5,6 +5,7 @@ use Rattle.hir.specs.declared.scratch.Work.{Work}
 use Rattle.hir.specs.declared.tables.Reason.TheVariants as reasons
 use Rattle.hir.specs.Environments.{Model}
 use Rattle.hir.specs.Lists.{Each}
+use Rattle.hir.specs.Packed.{epoch_of}
 use Rattle.hir.specs.Scratches.{both, work_of}
 use Rattle.hir.specs.Sound.{Sound, Known}
 use Rattle.walk.specs.Events.{Whole, whole}
@@ -49,9 +50,9 @@ as_constant b x = record { tag = x.tag; promoted = x.promoted; recorded = x.reco
 abbrev pub as_global : Bool → Work → Work
 as_global b x = record { tag = x.tag; promoted = x.promoted; recorded = x.recorded; escaped = x.escaped; constant = x.constant; global = x.global || b; tracked = x.tracked }
 
--- an identifier that was last tracked in epoch e, whatever epoch was noted before
+-- an identifier that was last tracked in epoch e, whatever epoch was noted before; epochs count from 1, and epoch 0 notes none
 abbrev pub as_tracked : ℕ → Work → Work
-as_tracked e x = record { tag = x.tag; promoted = x.promoted; recorded = x.recorded; escaped = x.escaped; constant = x.constant; global = x.global; tracked = Some e }
+as_tracked e x = record { tag = x.tag; promoted = x.promoted; recorded = x.recorded; escaped = x.escaped; constant = x.constant; global = x.global; tracked = epoch_of e }
 
 -- in an epoch before this one
 abbrev pub is_before : ℕ → Option ℕ → Bool

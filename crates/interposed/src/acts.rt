@@ -5,6 +5,7 @@ ghost use Rattle.interposed.specs.Acts.{Act, uses, fixes, loads, takes, global, 
 
 use hir::environment::Environment;
 use hir::ids::IdentifierId;
+use hir::packed::PackedEpoch;
 use hir::scratch::Scratch;
 use hir::tables::Reason;
 use promote::identifier::promote_unnamed;
@@ -22,7 +23,7 @@ impl PromoteInterposed {
         ensures { whole self.now (tables env.new scratch.new) ≡ does (whole self.now (tables env.old scratch.old)) (uses id) }
     {
         let work = scratch.work[id.0 as usize];
-        let exposed = work.tracked.is_some_and(|epoch| epoch < self.epoch);
+        let exposed = work.tracked.get().is_some_and(|epoch| epoch < self.epoch);
         if !work.constant && exposed {
             promote_unnamed(env, scratch, id, Reason::Interposed);
         }
@@ -51,7 +52,7 @@ impl PromoteInterposed {
             let i = lvalue.0 as usize;
             let mut work = scratch.work[i];
             work.constant = work.constant || scratch.work[from.0 as usize].constant;
-            work.tracked = Some(self.epoch);
+            work.tracked = PackedEpoch::new(self.epoch);
             scratch.work[i] = work;
         }
     }
@@ -73,7 +74,7 @@ impl PromoteInterposed {
         work.global = work.global || global;
         work.constant = work.constant || global;
         if env.is_unnamed(lvalue) {
-            work.tracked = Some(self.epoch);
+            work.tracked = PackedEpoch::new(self.epoch);
         }
         scratch.work[i] = work;
     }
@@ -105,7 +106,7 @@ impl PromoteInterposed {
         ensures { whole self.now (tables env.now scratch.new) ≡ does (whole self.now (tables env.now scratch.old)) (tracks lvalue) }
     {
         if env.is_unnamed(lvalue) {
-            scratch.work[lvalue.0 as usize].tracked = Some(self.epoch);
+            scratch.work[lvalue.0 as usize].tracked = PackedEpoch::new(self.epoch);
         }
     }
 }

@@ -1,5 +1,5 @@
 -- The third pass names what reason 5 covers. Assumes nothing.
-use Rattle.std.proofs.Common.{◌≡◌, ℕ, ◌+◌, ◌<◌, ◌≤◌, Bool, true, false, cond, not, ◌&&◌, ◌||◌, eqb, List, [], ◌∷◌, ◌++◌, length, Some, None, Option, IfSome, is_some, sym, refl, ap, ◌∙◌, subst, ⊎_elim, append_assoc, arith, length-set, get_or-set_other, get_or-set_same}
+use Rattle.std.proofs.Common.{◌≡◌, ℕ, zero, suc, ◌+◌, ◌<◌, ◌≤◌, Bool, true, false, cond, not, ◌&&◌, ◌||◌, eqb, List, [], ◌∷◌, ◌++◌, length, Some, None, Option, IfSome, is_some, sym, refl, ap, ◌∙◌, subst, ⊎_elim, append_assoc, arith, length-set, get_or-set_other, get_or-set_same}
 use Rattle.std.proofs.lemmas.List.Sums.{fold-append}
 use Rattle.std.specs.List.{filter, fold}
 use Rattle.std.proofs.lemmas.Bool.{cases_Bool, cases_eq, cond-true, cond-false, eq-eqb, ne_eqb, lt-ltb, le-ltb}
@@ -57,6 +57,8 @@ module _ (m : Model) (up out : ℕ → Bool) (js : List JournalRow) where
     pub seen : Seen m up out (declares m) (js ++ covers reasons.Interposed s.found) w.tables
     pub named : (i : ℕ) → s.named i ≡ taken m (js ++ covers reasons.Interposed s.found) i
     pub rows : (i : ℕ) → i < length m.identifiers → Agrees (table.epoch w) (work_of w.tables.notes i) s i
+    -- epochs count from 1
+    pub begun : 0 < table.epoch w
     -- each that was found was admitted to the journal
     pub admitted : fold (admit m) js (covers reasons.Interposed s.found) ≡ js ++ covers reasons.Interposed s.found
 
@@ -105,6 +107,7 @@ module _ (m : Model) (up out : ℕ → Bool) (js : List JournalRow) where
               subst R (sym (get_or-set_other w.tables.notes.work l.0 i x no_work ne)) (there i ne b (k.rows i b)))
               (cases_eq i l.0);
           admitted = subst A (sym found_same) k.admitted;
+          begun = k.begun;
         }
 
   plus_here : (p : ℕ → Bool) (x : ℕ) → known.plus p x x ≡ true
@@ -136,12 +139,13 @@ module _ (m : Model) (up out : ℕ → Bool) (js : List JournalRow) where
       (λ i ne b c. record { constant = c.constant; global = c.global ∙ sym (plus_there s.global l.0 i ne); tracked = c.tracked; exposed = c.exposed; low = c.low })
 
   -- one row under the changes of an act
-  agrees_tracked : (e : ℕ) (x : Work) (s : known.Known) (i : ℕ) → Agrees e x s i → Agrees e (table.as_tracked e x) (known.tracking i s) i
-  agrees_tracked e x s i a = record {
+  agrees_tracked : (e : ℕ) (x : Work) (s : known.Known) (i : ℕ) → 0 < e → Agrees e x s i → Agrees e (table.as_tracked e x) (known.tracking i s) i
+  agrees_tracked zero x s i h a = absurd (omega (arith, h))
+  agrees_tracked (suc e) x s i h a = record {
     constant = a.constant;
     global = a.global;
     tracked = sym (plus_here s.tracked i);
-    exposed = le-ltb e e (omega arith) ∙ sym (minus_here s.exposed i);
+    exposed = le-ltb (suc e) (suc e) (omega arith) ∙ sym (minus_here s.exposed i);
     low = omega arith;
   }
 
@@ -188,7 +192,7 @@ module _ (m : Model) (up out : ℕ → Bool) (js : List JournalRow) where
       subst P (sym (cond-true _ _ _ e))
       (subst Q (sym (cond-true _ _ _ (nameless_is s w k l ∙ e)))
       (knows_noting s (known.tracking l.0 s) w l (table.as_tracked (table.epoch w) (table.work w l)) k h refl (λ i. refl) refl refl refl
-      (agrees_tracked (table.epoch w) (table.work w l) s l.0 (k.rows l.0 h))
+      (agrees_tracked (table.epoch w) (table.work w l) s l.0 k.begun (k.rows l.0 h))
       (λ i ne b c. tracked_other (table.epoch w) (work_of w.tables.notes i) s l.0 i ne c))))
       (λ e.
       let P : known.Known → Type 0 = λ a. Knows a (table.does w (table.tracks l)) in
@@ -208,7 +212,7 @@ module _ (m : Model) (up out : ℕ → Bool) (js : List JournalRow) where
       (subst Q (sym (cond-true _ _ _ (nameless_is s w k l ∙ e) ∙ ap (λ c. table.noting w l (table.as_tracked (table.epoch w) (table.as_constant c (table.work w l)))) same))
       (knows_noting s (known.tracking l.0 inner) w l (table.as_tracked (table.epoch w) (table.as_constant b (table.work w l))) k h
       (if_found b (known.fixing l.0) s refl) (λ i. if_named b (known.fixing l.0) s i refl) refl refl refl
-      (agrees_tracked (table.epoch w) (table.as_constant b (table.work w l)) inner l.0 (agrees_constant b (table.epoch w) (table.work w l) s l.0 (k.rows l.0 h)))
+      (agrees_tracked (table.epoch w) (table.as_constant b (table.work w l)) inner l.0 k.begun (agrees_constant b (table.epoch w) (table.work w l) s l.0 (k.rows l.0 h)))
       (λ i ne q c. tracked_other (table.epoch w) (work_of w.tables.notes i) inner l.0 i ne (constant_other b (table.epoch w) (work_of w.tables.notes i) s l.0 i ne c)))))
       (λ e.
       let P : known.Known → Type 0 = λ a. Knows a (table.does w (table.loads l x)) in
@@ -233,7 +237,7 @@ module _ (m : Model) (up out : ℕ → Bool) (js : List JournalRow) where
       (subst Q (sym (as_b ∙ ap (table.noting w l) (cond-true _ _ _ (nameless_is s w k l ∙ e))))
       (knows_noting s (known.tracking l.0 inner) w l (table.as_tracked (table.epoch w) y) k h
       (if_found b f s refl) (λ i. if_named b f s i refl) refl refl refl
-      (agrees_tracked (table.epoch w) y inner l.0 here)
+      (agrees_tracked (table.epoch w) y inner l.0 k.begun here)
       (λ i ne q c. tracked_other (table.epoch w) (work_of w.tables.notes i) inner l.0 i ne (global_other b (table.epoch w) (work_of w.tables.notes i) s l.0 i ne c)))))
       (λ e.
       let P : known.Known → Type 0 = λ a. Knows a (table.does w (table.takes l x)) in
@@ -252,6 +256,7 @@ module _ (m : Model) (up out : ℕ → Bool) (js : List JournalRow) where
     seen = k.seen;
     named = k.named;
     admitted = k.admitted;
+    begun = omega (arith, k.begun);
     rows = λ i b.
         let a = k.rows i b in
         let o = (work_of w.tables.notes i).tracked in
@@ -305,6 +310,7 @@ module _ (m : Model) (up out : ℕ → Bool) (js : List JournalRow) where
           seen = seen;
           named = named;
           admitted = in_all;
+          begun = k.begun;
           rows = λ i b.
               let a = same i (k.rows i b) in
               record {

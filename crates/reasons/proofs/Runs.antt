@@ -1,5 +1,5 @@
 -- The four passes leave what the coverings of a run say. Assumes nothing.
-use Rattle.std.proofs.Common.{◌≡◌, ℕ, ◌≤◌, Bool, false, Option, IfSome, is_some, None, List, [], ◌∷◌, ◌++◌, length, get_or, replicate, sym, refl, ap, ◌∙◌, subst, ⊎_elim, append_assoc, append-nil}
+use Rattle.std.proofs.Common.{◌≡◌, ℕ, ◌<◌, ◌≤◌, Bool, false, Option, IfSome, is_some, None, List, [], ◌∷◌, ◌++◌, length, get_or, replicate, sym, refl, ap, ◌∙◌, subst, ⊎_elim, append_assoc, append-nil, arith}
 use Rattle.std.proofs.lemmas.List.Sums.{fold-append}
 use Rattle.std.specs.List.{filter, fold}
 use Rattle.std.proofs.lemmas.List.Elements.{filter-append}
@@ -150,6 +150,7 @@ module _ (t : Tables) (ps : Span) (rs : List Row) (sound : Sound t) (parameters 
         named = subst Q (sym (append-nil firstly)) (λ i. sym (taken_over t.env [] (early t.env ps rs) i));
         rows = λ i l. blank_row_two i (marked.plain i l);
         admitted = sym (append-nil firstly);
+        begun = omega arith;
       }
     where
       blank_row_two : (i : ℕ) → marking.Plain (work_of one.notes i) → Agrees 1 (work_of two.notes i) (known.nothing (named_then t.env ps rs)) i
