@@ -19,7 +19,7 @@ fn mixed<'a>(first: &'a Tree, second: &'a Tree) -> [Either<TableSource<'a>, Tabl
 }
 
 // Each of the four calls by itself: as lists for `perform` each would take a list of one request and one of one answer.
-impl Case {
+impl<'a> Case<'a> {
     // Runs over a tree. Its source stands one row in, so that the run has to rewind it.
     pub fn run(&mut self, place: usize) -> Result<Answer, Fault> {
         let mut source = self.trees.get(place).ok_or(Fault::Line)?.source();

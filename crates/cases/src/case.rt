@@ -1,5 +1,6 @@
 // One case: its tables and trees, and the lines that set them up.
 use crate::fault::Fault;
+use crate::names::Names;
 use crate::state::{ScratchSize, State, Tables};
 use crate::tree::Tree;
 use crate::words::{first_number, first_word, list, number, two_numbers};
@@ -10,8 +11,9 @@ use hir::tables::{Function, Identifier, Scope};
 use std::alloc::Global;
 
 #[derive(Drop)]
-pub struct Case {
+pub struct Case<'a> {
     pub heap: Global,
+    pub names: &'a Names,
     pub state: State,
     pub tables: Tables,
     pub parameters: Span,
@@ -21,11 +23,12 @@ pub struct Case {
     scratch_set: bool,
 }
 
-impl Case {
+impl<'a> Case<'a> {
     // Nothing set up.
-    pub fn new(heap: Global) -> Case {
+    pub fn new(heap: Global, names: &'a Names) -> Case<'a> {
         Case {
             heap,
+            names,
             state: State::new(heap),
             tables: Tables {
                 scopes: Vec::new(heap),
@@ -152,7 +155,7 @@ impl Case {
     fn add_tree(&mut self, rows: &str) -> Result<(), Fault> {
         let mut tree = Tree::new(self.heap);
         if !rows.is_empty() {
-            tree.add_rows(rows)?;
+            tree.add_rows(self.names, rows)?;
         }
         self.trees.push(tree)?;
         Ok(())
@@ -161,7 +164,7 @@ impl Case {
     // `row ROWS`, into the last tree
     fn add_rows(&mut self, rows: &str) -> Result<(), Fault> {
         match self.trees.last_mut() {
-            Some(tree) => tree.add_rows(rows),
+            Some(tree) => tree.add_rows(self.names, rows),
             None => self.add_tree(rows),
         }
     }

@@ -14,12 +14,14 @@ mod words;
 use answers::print_tags;
 use case::Case;
 use fault::Fault;
+use names::Names;
 use play::follow;
 use std::io;
 
 // Follows all lines, up to the first that it cannot follow, of which it says why.
 fn play_all(rt: &HostRuntime, text: &str) -> Result<(), Fault> {
-    let mut case = Case::new(rt.alloc());
+    let names = Names::new(rt.alloc())?;
+    let mut case = Case::new(rt.alloc(), &names);
     for line in text.lines() {
         if let Err(fault) = follow(rt, &mut case, line) {
             println!(rt; "{fault}: {line}")?;

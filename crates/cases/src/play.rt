@@ -30,7 +30,7 @@ pub fn follow(rt: &HostRuntime, case: &mut Case, line: &str) -> Result<(), Fault
 // Ends a case with the tags that it leaves, and begins the next.
 fn begin(rt: &HostRuntime, case: &mut Case, name: &str) -> Result<(), Fault> {
     print_tags(rt, &case.state)?;
-    *case = Case::new(rt.alloc());
+    *case = Case::new(rt.alloc(), case.names);
     println!(rt; "case {name}")?;
     Ok(())
 }

@@ -3,7 +3,7 @@ ghost use Rattle.std.specs.Prelude.{◌≡◌};
 ghost use Rattle.reactive.specs.Tables.{table_reading, table_source};
 
 use crate::fault::Fault;
-use crate::names::{code, kind};
+use crate::names::Names;
 use crate::words::{first_word, list, number};
 use hir::ids::{FunctionId, IdentifierId, ScopeId};
 use reactive::row::Number;
@@ -27,9 +27,9 @@ impl Tree {
     }
 
     // Adds the rows of a line: `DEPTH CODE FIELD..`, with `; ` between two rows.
-    pub fn add_rows(&mut self, text: &str) -> Result<(), Fault> {
+    pub fn add_rows(&mut self, names: &Names, text: &str) -> Result<(), Fault> {
         for row in text.split("; ") {
-            self.add_row(row)?;
+            self.add_row(names, row)?;
         }
         Ok(())
     }
@@ -42,12 +42,12 @@ impl Tree {
     }
 
     // Adds one row.
-    fn add_row(&mut self, text: &str) -> Result<(), Fault> {
+    fn add_row(&mut self, names: &Names, text: &str) -> Result<(), Fault> {
         let (depth, rest) = first_word(text);
         let (name, fields) = first_word(rest);
-        let mut row = bare_row(number(depth)?, code(name)?);
+        let mut row = bare_row(number(depth)?, names.code(name)?);
         if !fields.is_empty() {
-            set_fields(&mut row, &mut self.pool, fields)?;
+            set_fields(&mut row, &mut self.pool, names, fields)?;
         }
         self.rows.push(row)?;
         Ok(())
@@ -64,10 +64,15 @@ fn bare_row(depth: u32, code: u8) -> RowEntry {
 }
 
 // Sets the fields `NAME=VALUE` of a row, with a space between two of them.
-fn set_fields(row: &mut RowEntry, pool: &mut Vec<u32>, fields: &str) -> Result<(), Fault> {
+fn set_fields(
+    row: &mut RowEntry,
+    pool: &mut Vec<u32>,
+    names: &Names,
+    fields: &str,
+) -> Result<(), Fault> {
     for field in fields.split(' ') {
         let (name, value) = field.split_once('=').ok_or(Fault::Line)?;
-        set_field(row, pool, name, value)?;
+        set_field(row, pool, names, name, value)?;
     }
     Ok(())
 }
@@ -76,6 +81,7 @@ fn set_fields(row: &mut RowEntry, pool: &mut Vec<u32>, fields: &str) -> Result<(
 fn set_field(
     row: &mut RowEntry,
     pool: &mut Vec<u32>,
+    names: &Names,
     name: &str,
     value: &str,
 ) -> Result<(), Fault> {
@@ -83,7 +89,7 @@ fn set_field(
         "id" => row.identifier = Some(IdentifierId(number(value)?)),
         "scope" => row.number = Some(Number::Scope(ScopeId(number(value)?))),
         "function" => row.number = Some(Number::Function(FunctionId(number(value)?))),
-        "kind" => row.kind = kind(value)?,
+        "kind" => row.kind = names.kind(value)?,
         "mode" => row.mode = number(value)?,
         "operands" => row.operands = list(pool, value)?,
         "marks" => row.marks = list(pool, value)?,
