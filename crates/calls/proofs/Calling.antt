@@ -1,6 +1,6 @@
 -- One call in a list, from the contracts of the four, and one call more. Assumes nothing.
 use Rattle.std.proofs.Common.{◌≡◌, ℕ, ◌+◌, ◌<◌, ◌≤◌, List, [], ◌∷◌, ◌++◌, map, length, get_or, take, drop, set, Result, sym, refl, ap, ◌∙◌, subst, arith}
-use Rattle.std.proofs.lemmas.List.{length-map, map-set, get_or-map, get_or-take, take_more, take_more_set, drop-set-lt, drop-drop, length-take-le}
+use Rattle.std.proofs.lemmas.List.{length-map, map-set, get_or-map, take_more, take_more_set, drop-set-lt, drop-drop, length-take-le}
 use Rattle.hir.specs.declared.refusal.Refusal.{Refusal}
 use Rattle.hir.specs.declared.span.Span.{Span}
 use Rattle.hir.specs.Environments.{Model}
@@ -52,18 +52,17 @@ pub record Performing (text : Text) (w : World) (requests : List Request) (befor
 pub performing_none : (text : Text) (w : World) (requests : List Request) (answers : List RequestAnswer) → Performing text w requests answers answers 0 w
 performing_none text w requests answers = record { moments = []; told = refl; history = start; others = refl }
 
-pub performing_more : (text : Text) (w u v : World) (requests : List Request) (before answers : List RequestAnswer) (n i : ℕ) (d : Request) (a : RequestAnswer) → i < n → n ≤ length requests → i < length answers → Performing text w requests before answers i u → Follows text u (get_or (take n requests) i d) a v → Performing text w requests before (set answers i a) (i + 1) v
-performing_more text w u v requests before answers n i d a low most room p f =
+pub performing_more : (text : Text) (w u v : World) (requests : List Request) (before answers : List RequestAnswer) (i : ℕ) (d : Request) (a : RequestAnswer) → i < length requests → i < length answers → Performing text w requests before answers i u → Follows text u (get_or requests i d) a v → Performing text w requests before (set answers i a) (i + 1) v
+performing_more text w u v requests before answers i d a low room p f =
     let m : Moment = record { before = u; request = get_or requests i d; answer = a; after = v } in
-    let P : Request → Type 0 = λ q. Follows text u q a v in
     let same : length (take i requests) ≡ length (take i answers) = length-take-le i requests (omega arith) ∙ sym (length-take-le i answers (omega arith)) in
     record {
       moments = p.moments ++ m ∷ [];
       told =
           let Q : List Request → Type 0 = λ qs. Told qs (take (i + 1) (set answers i a)) (p.moments ++ m ∷ []) in
           let R : List RequestAnswer → Type 0 = λ rs. Told (take i requests ++ get_or requests i d ∷ []) rs (p.moments ++ m ∷ []) in
-          subst Q (sym (take_more requests i d (omega arith))) (subst R (sym (take_more_set answers i a room)) (told_push (take i requests) (take i answers) p.moments m same p.told));
-      history = history_push text w u p.moments m p.history refl (subst P (get_or-take n requests i d low) f);
+          subst Q (sym (take_more requests i d low)) (subst R (sym (take_more_set answers i a room)) (told_push (take i requests) (take i answers) p.moments m same p.told));
+      history = history_push text w u p.moments m p.history refl f;
       others = drop-set-lt (i + 1) answers i a (omega arith) ∙ sym (drop-drop 1 i answers) ∙ ap (drop 1) p.others ∙ drop-drop 1 i before;
     }
 

@@ -62,9 +62,9 @@ pub fn perform<S: TreeSource, N: Naming>(
     ensures others { drop result answers.new ≡ drop result answers.old }
 {
     let count = requests.len().min(answers.len());
-    for (i, request) in requests[..count].iter().enumerate() {
-        // by index, since nothing is known of the answers behind an `iter_mut` in a `zip`
-        answers[i] = call(env, scratch, trees, naming, text, *request);
+    // By index: nothing is known of the answers behind an `iter_mut` in a `zip`.
+    for i in 0..count {
+        answers[i] = call(env, scratch, trees, naming, text, requests[i]);
     }
     count
 }

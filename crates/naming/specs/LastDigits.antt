@@ -2,7 +2,7 @@
 use Rattle.std.specs.Prelude.{◌≡◌, ℕ, zero, suc, ◌+◌, ◌/◌, ◌%◌, ◌^◌, ◌*◌, ◌<◌, ◌≤◌, max, List, [], ◌∷◌, ◌++◌, length, drop, decimal, slice_set, refl}
 use Rattle.std.proofs.Common.{sym, ap, ◌∙◌, append_assoc, pow-suc, add-one, arith}
 use Rattle.std.proofs.Math.Nat.{pow-zero}
-use Rattle.std.proofs.lemmas.Fmt.{decimal_digit, decimal_step}
+use Rattle.std.proofs.lemmas.Fmt.{decimal_digit, decimal_step, length-decimal-le}
 use Rattle.std.proofs.lemmas.List.{length_push, drop-set, same_from_push}
 use Rattle.std.proofs.lemmas.Bool.Decides.{nat_tests}
 use Rattle.naming.specs.Texts.{digit_byte, last_digits}
@@ -27,18 +27,24 @@ decimal_digit_byte : (d : ℕ) → d < 10 → digit_byte d ≡ 48 + d
 decimal_digit_byte d h = grind (arith, nat_tests)
 
 -- a number below ten has one decimal digit
-decimal_one : (n : ℕ) → n < 10 → last_digits 10 1 n ≡ decimal n
+pub decimal_one : (n : ℕ) → n < 10 → last_digits 10 1 n ≡ decimal n
 decimal_one n h =
     let same : n % 10 ≡ n = omega arith in
     ap (λ d. digit_byte d ∷ []) same ∙ ap (λ d. d ∷ []) (decimal_digit_byte n h) ∙ sym (decimal_digit n h)
 
 -- any other has one more than its tenth
-decimal_more : (count n : ℕ) → 10 ≤ n → n < 65536 → last_digits 10 count (n / 10) ≡ decimal (n / 10) → last_digits 10 (count + 1) n ≡ decimal n
+pub decimal_more : (count n : ℕ) → 10 ≤ n → n < 65536 → last_digits 10 count (n / 10) ≡ decimal (n / 10) → last_digits 10 (count + 1) n ≡ decimal n
 decimal_more count n h k e =
     ap (λ c. last_digits 10 c n) (add-one count)
     ∙ ap (λ ds. ds ++ (digit_byte (n % 10) ∷ [])) e
     ∙ ap (λ d. decimal (n / 10) ++ (d ∷ [])) (decimal_digit_byte (n % 10) (omega arith))
     ∙ sym (decimal_step n h (omega arith))
+
+-- and none has more than five
+pub decimal_few : (count n : ℕ) → n < 65536 → last_digits 10 count n ≡ decimal n → count ≤ 5
+decimal_few count n h e =
+    let few : length (decimal n) ≤ 5 = length-decimal-le 5 n (omega arith) (omega arith) (omega arith) in
+    omega (arith, length_last_digits 10 count n, ap length e)
 
 some_power : (power : ℕ) → 0 < 10 ^ power
 some_power zero = omega (arith, pow-zero 10)
