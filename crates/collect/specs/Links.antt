@@ -2,6 +2,7 @@
 use Rattle.std.specs.Prelude.{ℕ, zero, suc, ◌<◌, ◌≤◌, Bool, List, [], ◌∷◌, Some, None, Option, length, nat_eq, slice_index_or}
 use Rattle.hir.specs.declared.scratch.Trail.{Trail}
 use Rattle.std.specs.List.{list_any}
+use Rattle.hir.specs.Packed.{of_link}
 use Rattle.hir.specs.Scratches.{no_trail}
 
 -- the trail row of an active scope
@@ -10,8 +11,7 @@ trail_of trail j = slice_index_or trail j no_trail
 
 -- how many trail rows there are up to that of a link
 abbrev pub reach : Option ℕ → ℕ
-reach None = 0
-reach (Some j) = suc j
+reach = of_link
 
 -- the first scopes along a link, the innermost first
 abbrev pub along : ℕ → List Trail → Option ℕ → List ℕ
