@@ -10,6 +10,7 @@ use Rattle.image.specs.declared.fields.RowFields.{RowFields}
 use Rattle.image.specs.declared.section.Section.{Section}
 use Rattle.image.specs.declared.section.Section.TheVariants.{Identifiers, Scope, Function, Tree as TreePart}
 use Rattle.image.specs.declared.section.Open.{Open}
+use Rattle.image.specs.declared.open_any.OpenAny.{OpenAny}
 use Rattle.image.specs.declared.section.Reader.{Reader}
 use Rattle.image.specs.Bytes.{Place, see, see_unread, past, next, u32_of, words}
 use Rattle.image.specs.Format.{Fields, Tree, rank_of_letter}
@@ -118,7 +119,11 @@ pub record Opened : Type 0 where
 
 -- what an open section stands for
 abbrev pub see_open : Open → Opened
-see_open o = record { section = held o.section; unread = see_unread o.unread; behind = see o.behind }
+see_open o = record { section = held o.section; unread = see o.unread; behind = see o.behind }
+
+-- and one of which any bytes may be unread
+abbrev pub see_open_any : OpenAny → Opened
+see_open_any o = record { section = held o.section; unread = see_unread o.unread; behind = see o.behind }
 
 -- what a reader stands for: the place where the next section begins
 abbrev pub see_reader : Reader → Place

@@ -1,10 +1,11 @@
 // Layer 2: a version byte, then sections to the image's end.
 ghost use Rattle.std.specs.Prelude.{◌≡◌, ℕ, ◌+◌, ◌^◌, ◌<◌, ◌≤◌, length, IfOk, ◌==◌};
-ghost use Rattle.image.specs.Bytes.{Inside, see, see_unread};
-ghost use Rattle.image.specs.Steps.{Is, held, see_open, see_reader, section_at, opened_at, closed_at, version_at};
+ghost use Rattle.image.specs.Bytes.{Inside, see};
+ghost use Rattle.image.specs.Steps.{Is, held, see_open, see_open_any, see_reader, section_at, opened_at, closed_at, version_at};
 
 use crate::cursor::{Cursor, Unread};
 use crate::fault::{ByteFault, SectionFault};
+use crate::open_any::OpenAny;
 
 // A section reads as one of four cases, each with its part of the image: a rule of this project.
 #[derive(Clone, Copy)]
@@ -18,13 +19,14 @@ pub enum Section<'a> {
 // What is left of an image while no section is open.
 #[derive(Drop)]
 pub struct Reader<'a> {
-    left: Cursor<'a>,
+    pub(crate) left: Cursor<'a>,
 }
 
-// An open section. It is not `Drop`: `close` or `skip` spends it and gives the reader back.
+// An open section, of which bytes are unread whose end can be named. It is not `Drop`: `close` or `skip` spends it and gives
+// the reader back.
 pub struct Open<'a> {
     section: Section<'a>,
-    unread: Unread<'a>,
+    unread: Cursor<'a>,
     behind: Cursor<'a>,
 }
 
@@ -62,6 +64,26 @@ impl<'a> Reader<'a> {
         ensures inside { IfOk result (λ o. Inside (see_open o).unread) }
         ensures shorter { IfOk result (λ o. length o.behind.rest.now < length self.entry.left.rest.now) }
     {
+        let OpenAny {
+            section,
+            unread: Unread { rest, at },
+            behind,
+        } = self.open_any()?;
+        let unread = Cursor { rest, at };
+        Ok(Open {
+            section,
+            unread,
+            behind,
+        })
+    }
+
+    // Opens the next section, of which any bytes may then be told to be unread.
+    pub fn open_any(self) -> Result<OpenAny<'a>, SectionFault>
+        ensures is { Is see_open_any result (section_at (see_reader self.entry)) }
+        ensures fresh { IfOk result (λ o. (see_open_any o).unread.1 ≡ (see_open_any o).section.bytes) }
+        ensures inside { IfOk result (λ o. Inside (see_open_any o).unread) }
+        ensures shorter { IfOk result (λ o. length o.behind.rest.now < length self.entry.left.rest.now) }
+    {
         let Reader { left } = self;
         match left.rest {
             [a, b, c, d, letter, rest @ ..] => {
@@ -86,16 +108,16 @@ impl<'a> Open<'a> {
         self.section
     }
 
-    // What is unread of the section: its content, until `read_to` says otherwise.
-    pub fn unread(&self) -> Unread<'a>
-        ensures { see_unread result ≡ see_unread self.now.unread }
+    // What is unread of the section.
+    pub fn unread(&self) -> Cursor<'a>
+        ensures { see result ≡ see self.now.unread }
     {
         self.unread
     }
 
-    // What is unread is `rest` now, whatever it is: only `close` asks whether it is empty.
-    pub fn read_to(&mut self, rest: Unread<'a>)
-        ensures { see_open self.new ≡ record { section = held self.old.section; unread = see_unread rest.entry; behind = see self.old.behind } }
+    // What is unread is `rest` now.
+    pub fn read_to(&mut self, rest: Cursor<'a>)
+        ensures { see_open self.new ≡ record { section = held self.old.section; unread = see rest.entry; behind = see self.old.behind } }
     {
         self.unread = rest;
     }
@@ -104,27 +126,33 @@ impl<'a> Open<'a> {
     pub fn close(self) -> Result<Reader<'a>, SectionFault>
         ensures { Is see_reader result (closed_at (see_open self.entry)) }
     {
-        let Open {
-            section: _,
-            unread,
-            behind,
-        } = self;
-        if !unread.rest.is_empty() {
-            return Err(SectionFault::Left(unread.at));
-        }
-        Ok(Reader { left: behind })
+        OpenAny::from(self).close()
     }
 
     // Spends the section, read or not.
     pub fn skip(self) -> Reader<'a>
         ensures { see_reader result ≡ (see_open self.entry).behind }
     {
+        OpenAny::from(self).skip()
+    }
+}
+
+impl<'a> From<Open<'a>> for OpenAny<'a> {
+    ghost use Rattle.image.specs.Steps.{see_open, see_open_any};
+
+    ghost from_gives = { λ o a. see_open_any a ≡ see_open o };
+
+    fn from(part: Open<'a>) -> OpenAny<'a> {
         let Open {
-            section: _,
-            unread: _,
+            section,
+            unread,
             behind,
-        } = self;
-        Reader { left: behind }
+        } = part;
+        OpenAny {
+            section,
+            unread: Unread::from(unread),
+            behind,
+        }
     }
 }
 
@@ -134,11 +162,11 @@ fn opened<'a>(
     size: usize,
     letter: u8,
     content: Cursor<'a>,
-) -> Result<Open<'a>, SectionFault>
+) -> Result<OpenAny<'a>, SectionFault>
     requires { content.at ≡ at + 5 }
-    ensures is { Is see_open result (opened_at at size letter content.entry.rest.now) }
-    ensures fresh { IfOk result (λ o. (see_open o).unread.1 ≡ (see_open o).section.bytes) }
-    ensures inside { IfOk result (λ o. Inside (see_open o).unread) }
+    ensures is { Is see_open_any result (opened_at at size letter content.entry.rest.now) }
+    ensures fresh { IfOk result (λ o. (see_open_any o).unread.1 ≡ (see_open_any o).section.bytes) }
+    ensures inside { IfOk result (λ o. Inside (see_open_any o).unread) }
     ensures shorter { IfOk result (λ o. length o.behind.rest.now ≤ length content.entry.rest.now) }
 {
     if size == 0 {
@@ -154,7 +182,7 @@ fn opened<'a>(
         b'T' => Section::Tree(unread.rest),
         _ => return Err(SectionFault::Letter(at + 4)),
     };
-    Ok(Open {
+    Ok(OpenAny {
         section,
         unread: Unread::from(unread),
         behind,

@@ -1,7 +1,7 @@
 // A whole image: one I, any S, any F, any T.
 ghost use Rattle.std.specs.Prelude.{◌≡◌, ℕ, ◌+◌, ◌<◌, ◌≤◌, length, IfOk, Some};
 ghost use Rattle.image.specs.Bytes.{Inside, see};
-ghost use Rattle.image.specs.Steps.{Is, see_open, see_reader, ended, passed, in_section};
+ghost use Rattle.image.specs.Steps.{Is, see_open_any, see_reader, ended, passed, in_section};
 ghost use Rattle.image_check.specs.Ranks.{rank_number, stage_of};
 ghost use Rattle.image_check.specs.Steps.{lists_end, content_at, spent_at, one_at, staged, goes_on, image_at};
 ghost use Rattle.image_check.specs.Verdicts.{Verdict};
@@ -10,8 +10,9 @@ use crate::rank::Rank;
 use hir::span::MOST_OPEN;
 use image::cursor::{Cursor, Unread};
 use image::fault::{RowFault, SectionFault};
+use image::open_any::OpenAny;
 use image::row::check_row;
-use image::section::{Open, Reader};
+use image::section::Reader;
 
 // What follows this many lists.
 #[tactic(auto, using(crate::proofs::Lists::lists_next))]
@@ -39,10 +40,10 @@ fn check_content<'a>(rank: Rank, content: Cursor<'a>) -> Result<Cursor<'a>, RowF
 }
 
 // Reads an open section to its end, and spends it.
-fn check_open<'a>(mut part: Open<'a>) -> Result<Reader<'a>, RowFault>
-    requires { Inside (see_open part).unread }
-    ensures is { Is see_reader result (ended (spent_at (see_open part.entry))) }
-    ensures behind { IfOk result (λ v. see_reader v ≡ (see_open part.entry).behind) }
+fn check_open<'a>(mut part: OpenAny<'a>) -> Result<Reader<'a>, RowFault>
+    requires { Inside (see_open_any part).unread }
+    ensures is { Is see_reader result (ended (spent_at (see_open_any part.entry))) }
+    ensures behind { IfOk result (λ v. see_reader v ≡ (see_open_any part.entry).behind) }
 {
     let Unread { rest, at } = part.unread();
     match check_content(Rank::from(part.section()), Cursor { rest, at }) {
@@ -79,7 +80,7 @@ impl<'a> Sections<'a> {
     {
         let Sections { reader, last } = self;
         let at = reader.at();
-        let part = reader.open()?;
+        let part = reader.open_any()?;
         let rank = Rank::from(part.section());
         if !rank.may_follow(last) {
             let _ = part.skip();

@@ -59,7 +59,7 @@ pub fn load<'a>(heap: Global, image: &'a [u8]) -> Result<Tables<'a>, LoadFault>
     let mut tables = Tables::new(heap);
     let mut reader = Reader::new(image)?;
     while !reader.is_done() {
-        let open = reader.open()?;
+        let open = reader.open_any()?;
         let section = open.section();
         reader = open.skip();
         add_section(&mut tables, section)?;
